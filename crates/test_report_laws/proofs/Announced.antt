@@ -22,7 +22,7 @@ use Rattle.test_report_run.specs.Over.{early_notes, early_state, explained_of, l
 use Rattle.test_report_run.specs.Run.{RunState, Step, after, ended_at, ended_early, file_notes, heard, learned, tests_in, notes_at, open_suite, opened, run_start, settled_at, started_again, step, stray_suite_notes, suite_at, with_suite_at, without_tests}
 use Rattle.test_report_run.specs.Said.{sum_of}
 use Rattle.test_report_laws.specs.Status.{AnnouncedAreCounted, announced_by}
-use Rattle.test_report_run.specs.Suite.{SuiteState, has_key, joined_by, outside_start, suite_start, with_line}
+use Rattle.test_report_run.specs.Suite.{SuiteState, cancelled_by, has_key, joined_by, outside_start, suite_start, with_line}
 use Rattle.test_report_laws.specs.Whole.{all_notes, run_after_files}
 use Rattle.test_report_laws.proofs.Types.{Explanation, Said}
 use Rattle.test_report_run.specs.declared.note.RunEnd.{RunEnd}
@@ -93,15 +93,15 @@ covered-first n notes r None count (Some at) in' i =
     omega (
       arith,
       i,
-      early-covers r.others s tests,
+      early-covers r.others (cancelled_by r.cancel s) tests,
       sum_by_push (weigh announcing) (remove r.suites at) start,
       sum_by-remove (weigh announcing) r.suites at r.outside in',
-      sum_by-append reach notes (early_notes r.others s tests),
+      sum_by-append reach notes (early_notes r.others (cancelled_by r.cancel s) tests),
     )
 
 covered-over : (n : ℕ) (notes : List NoteView) (r : RunState) (e : SuiteEndView) (at : ℕ) (over : Bool) → at < length r.suites → Covered n notes r
     → let s = with_line (suite_at r (Some at)) e in
-    let t = if over then step (without_tests (record r { suites = remove r.suites at }) s) (last_notes s (tests_in r s))
+    let t = if over then step (without_tests (record r { suites = remove r.suites at }) s) (last_notes (cancelled_by r.cancel s) (tests_in r s))
     else step (with_suite_at r (Some at) s) [] in
     Covered (n + 0) (notes ++ t.notes) (learned t.run t.notes)
 covered-over n notes r e at true in' i =
@@ -110,9 +110,9 @@ covered-over n notes r e at true in' i =
     omega (
       arith,
       i,
-      last-covers s (explained_of s (length tests)) tests,
+      last-covers (cancelled_by r.cancel s) (explained_of s (length tests)) tests,
       sum_by-remove (weigh announcing) r.suites at r.outside in',
-      sum_by-append reach notes (last_notes s tests),
+      sum_by-append reach notes (last_notes (cancelled_by r.cancel s) tests),
     )
 covered-over n notes r e at false in' i =
     let s = with_line (suite_at r (Some at)) e in
@@ -160,9 +160,9 @@ covered-ends t (s ∷ suites) =
     let tests = tests_in t.run s in
     omega (
       arith,
-      early-covers t.run.others s tests,
+      early-covers t.run.others (cancelled_by t.run.cancel s) tests,
       sum_by-cons (weigh announcing) s suites,
-      sum_by-append reach t.notes (early_notes t.run.others s tests),
+      sum_by-append reach t.notes (early_notes t.run.others (cancelled_by t.run.cancel s) tests),
       covered-ends (ended_early t s) suites,
     )
 
@@ -171,7 +171,8 @@ covered-end n notes r i =
     let now = reported_run r in
     let none = step (record now { suites = [] }) [] in
     let ended = fold ended_early none now.suites in
-    let last = early_notes ended.run.others now.outside (tests_in (record (ended.run) { outside = outside_start }) now.outside) in
+    let tests = tests_in (record (ended.run) { outside = outside_start }) now.outside in
+    let last = early_notes ended.run.others (cancelled_by ended.run.cancel now.outside) tests in
     omega (
       arith,
       i,

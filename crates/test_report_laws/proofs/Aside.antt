@@ -4,14 +4,14 @@ use Rattle.std.specs.List.{fold, position, remove}
 use Rattle.std.specs.Option.{option_map_or}
 use Rattle.std.specs.Prelude.{◌==◌}
 use Rattle.std.proofs.lemmas.Bool.{cond_both}
-use Rattle.test_report_events.specs.Event.{EventView, SuiteEndView, TestEndView, SuiteStarts, SuiteEnds, TestStarts, TestEnds, TestIsSlow, OtherLine, HeadingLine, CargoFails, Prints, DamagedLine, CommandStarts, CommandOver}
+use Rattle.test_report_events.specs.Event.{EventView, SuiteEndView, TestEndView, SuiteStarts, SuiteEnds, TestStarts, TestEnds, TestIsSlow, OtherLine, HeadingLine, CargoFails, Prints, DamagedLine, CommandStarts, Cancels, CommandOver}
 use Rattle.test_report_events.specs.declared.event.TestResult.{TestResult}
 use Rattle.test_report_events.specs.declared.event.TestResult.TheVariants.{Ok, Failed, Ignored}
 use Rattle.test_report_run.specs.Events.{is_event}
 use Rattle.test_report_run.specs.Over.{last_notes}
 use Rattle.test_report_run.specs.Run.{RunState, Step, all_ended_early, ended_at, ended_early, tests_in, open_suite, opened, place_of_number, running_ends, slow_at, started_again, step, stray_ends, stray_suite_notes, suite_at, suite_place, told, with_suite_at, without_tests}
 use Rattle.test_report_run.specs.Running.{is_same, place_of_end, running_at}
-use Rattle.test_report_run.specs.Suite.{SuiteState, outside_start, with_line}
+use Rattle.test_report_run.specs.Suite.{SuiteState, cancelled_by, outside_start, with_line}
 
 -- a run without its suites and tests
 abbrev pub aside : RunState → RunState
@@ -31,7 +31,7 @@ aside-last : (r : RunState) (e : SuiteEndView) (at : Option ℕ) → aside (opti
 aside-last r e None = refl
 aside-last r e (Some at) =
     let s = with_line (suite_at r (Some at)) e in
-    cond_both (s.open_lines == 0) (step (without_tests (record r { suites = remove r.suites at }) s) (last_notes s (tests_in r s)))
+    cond_both (s.open_lines == 0) (step (without_tests (record r { suites = remove r.suites at }) s) (last_notes (cancelled_by r.cancel s) (tests_in r s)))
     (step (with_suite_at r (Some at) s) []) (λ (t : Step). aside t.run ≡ aside r) (λ _. refl) (λ _. refl)
 
 aside-stray : (r : RunState) (e : TestEndView) (how : TestResult) → aside (stray_ends r (record e { result = how })).run ≡ aside r
@@ -63,7 +63,8 @@ aside-told r (HeadingLine name path) h = absurd (cc)
 aside-told r (CargoFails f line plain) h = absurd (cc)
 aside-told r (Prints line plain) h = absurd (cc)
 aside-told r (DamagedLine text) h = absurd (cc)
-aside-told r CommandStarts h = absurd (cc)
+aside-told r (CommandStarts names) h = absurd (cc)
+aside-told r (Cancels why) h = absurd (cc)
 aside-told r (CommandOver end) h = absurd (cc)
 
 -- suites that end early

@@ -9,7 +9,7 @@ use Rattle.std.proofs.lemmas.List.Quantifiers.{position-Some}
 use Rattle.std.proofs.lemmas.List.Sums.{fold-append, sum_by-append, sum_by-cons, sum_by-remove, sum_by-set, sum_by_push}
 use Rattle.run_events_stats.specs.Counters.{counters_of, nothing_known}
 use Rattle.run_events_stats.specs.declared.stats.RunStats.{RunStats}
-use Rattle.test_report_events.specs.Event.{EventView, SuiteEndView, TestEndView, SuiteStarts, SuiteEnds, TestStarts, TestEnds, TestIsSlow, OtherLine, HeadingLine, CargoFails, Prints, DamagedLine, CommandStarts, CommandOver}
+use Rattle.test_report_events.specs.Event.{EventView, SuiteEndView, TestEndView, SuiteStarts, SuiteEnds, TestStarts, TestEnds, TestIsSlow, OtherLine, HeadingLine, CargoFails, Prints, DamagedLine, CommandStarts, Cancels, CommandOver}
 use Rattle.test_report_events.specs.declared.event.TestResult.{TestResult}
 use Rattle.test_report_events.specs.declared.event.TestResult.TheVariants.{Ok, Failed, Ignored}
 use Rattle.test_report_laws.proofs.CargoReports.{OnlyReports, only-cargo, only-settled_at, only-told, reports-none}
@@ -25,7 +25,7 @@ use Rattle.test_report_run.specs.Prints.{cut}
 use Rattle.test_report_run.specs.Run.{RunState, Step, after, after_file, cargo_fails, counts_tests, ended_at, ended_early, file_notes, heard, is_disagreement, learned, marked, tests_in, notes_at, open_suite, opened, place_of_number, reports_told, run_start, running_ends, running_over, settled_at, slow_at, started_again, step, stray_ends, stray_over, stray_suite_notes, stray_test, suite_at, suite_place, told, told_at, with_note, with_suite_at, without_tests}
 use Rattle.test_report_run.specs.Running.{RunningView, is_same, place_of_end, running_at, with_slow}
 use Rattle.test_report_run.specs.Name.{before_dollar}
-use Rattle.test_report_run.specs.Suite.{FlakyView, OverView, SuiteState, has_key, joined_by, named, outside_start, suite_start, with_line, with_start}
+use Rattle.test_report_run.specs.Suite.{FlakyView, OverView, SuiteState, cancelled_by, has_key, joined_by, named, outside_start, suite_start, with_line, with_start}
 use Rattle.test_report_laws.proofs.Types.{Explanation}
 use Rattle.test_report_run.specs.Totals.{no_suites}
 use Rattle.test_report_laws.specs.Whole.{all_notes, notes_of, run_after, run_after_files}
@@ -198,7 +198,7 @@ module _ {loose : ℕ} {w v : NoteView → ℕ} {h : Kept → ℕ} {Fine : Kept 
       let start = suite_start (Some (r.suites_started + 1)) None r.heading count r.others in
       let same = held-push h (remove r.suites at) start empty in
       let less = held-remove h r at in' in
-      let over = of_early r.others s (tests_in r s) (fine-at r (Some at) f in') in (
+      let over = of_early r.others (cancelled_by r.cancel s) (tests_in r s) (fine-at r (Some at) f in') in (
         record { low = omega (arith, over.low); high = λ e. omega (arith, over.high e) },
         (f.0, All-push IsFine (remove r.suites at) start (fine-remove r at f) fine_empty),
         refl,
@@ -206,12 +206,12 @@ module _ {loose : ℕ} {w v : NoteView → ℕ} {h : Kept → ℕ} {Fine : Kept 
 
   -- a last line of a suite
   keeps-over : (r : RunState) (at : ℕ) (s : SuiteState) (over : Bool) → AreFine r → at < length r.suites → kept s ≡ kept (suite_at r (Some at))
-      → Keeps r (if over then step (without_tests (record r { suites = remove r.suites at }) s) (last_notes s (tests_in r s))
+      → Keeps r (if over then step (without_tests (record r { suites = remove r.suites at }) s) (last_notes (cancelled_by r.cancel s) (tests_in r s))
       else step (with_suite_at r (Some at) s) [])
   keeps-over r at s true f in' same =
       let less = held-remove h r at in' in
       let tests = tests_in r s in
-      let over = of_last s (explained_of s (length tests)) tests (subst Fine (sym same) (fine-at r (Some at) f in')) in
+      let over = of_last (cancelled_by r.cancel s) (explained_of s (length tests)) tests (subst Fine (sym same) (fine-at r (Some at) f in')) in
       let equal : held h s ≡ held h (suite_at r (Some at)) = ap h same in
       (record { low = omega (arith, over.low); high = λ e. omega (arith, over.high e) }, (f.0, fine-remove r at f), refl)
   keeps-over r at s false f in' same =
@@ -299,7 +299,8 @@ module _ {loose : ℕ} {w v : NoteView → ℕ} {h : Kept → ℕ} {Fine : Kept 
       (only-cargo r k plain)
   keeps-line r (Prints line plain) f = (record { low = omega arith; high = λ _. omega arith }, f, refl)
   keeps-line r (DamagedLine text) f = keeps-if r true (IsDamaged (cut text)) f
-  keeps-line r CommandStarts f = (record { low = omega arith; high = λ _. omega arith }, f, refl)
+  keeps-line r (CommandStarts names) f = (record { low = omega arith; high = λ _. omega arith }, f, refl)
+  keeps-line r (Cancels why) f = (record { low = omega arith; high = λ _. omega arith }, f, refl)
   keeps-line r (CommandOver end) f = (record { low = omega arith; high = λ _. omega arith }, f, refl)
 
   -- one step after the other
@@ -356,11 +357,11 @@ module _ {loose : ℕ} {w v : NoteView → ℕ} {h : Kept → ℕ} {Fine : Kept 
   ends-early t [] f = record { low = omega arith; high = λ _. omega arith }
   ends-early t (s ∷ suites) f =
       let tests = tests_in t.run s in
-      let now = of_early t.run.others s tests (All-head IsFine s suites f) in
+      let now = of_early t.run.others (cancelled_by t.run.cancel s) tests (All-head IsFine s suites f) in
       let rest = ends-early (ended_early t s) suites (All-tail IsFine s suites f) in
       let more = sum_by-cons (held h) s suites in
-      let x = sum_by-append w t.notes (early_notes t.run.others s tests) in
-      let y = sum_by-append v t.notes (early_notes t.run.others s tests) in
+      let x = sum_by-append w t.notes (early_notes t.run.others (cancelled_by t.run.cancel s) tests) in
+      let y = sum_by-append v t.notes (early_notes t.run.others (cancelled_by t.run.cancel s) tests) in
       record { low = omega (arith, now.low, rest.low); high = λ e. omega (arith, now.high e, rest.high e) }
 
   holds-file_end : (notes : List NoteView) (r : RunState) → Holds notes r → HoldsAll loose w v (notes ++ file_notes r) (after_file r)

@@ -5,7 +5,7 @@ use Rattle.std.specs.Option.{option_map_or}
 use Rattle.std.specs.Prelude.{◌==◌, ◌&&◌, not}
 use Rattle.std.proofs.lemmas.Bool.{cond_both, ltb-true}
 use Rattle.std.proofs.lemmas.List.Sums.{sum_by-append}
-use Rattle.test_report_events.specs.Event.{CargoFails, CommandOver, CommandStarts, DamagedLine, EventView, HeadingLine, Prints}
+use Rattle.test_report_events.specs.Event.{CargoFails, CommandOver, CommandStarts, Cancels, DamagedLine, EventView, HeadingLine, Prints}
 use Rattle.test_report_events.specs.declared.event.CargoFailure.{CargoFailure}
 use Rattle.test_report_events.specs.declared.event.CargoFailure.TheVariants.{Build, Tests, Run}
 use Rattle.test_report_laws.proofs.Aside.{aside-early, aside-told}
@@ -33,7 +33,8 @@ of-told r (CargoFails f line plain) h = cond_both (disagrees r f) (with_report r
     (λ (x : RunState). (record x { others = after_failure r.others }).of_command ≡ false → r.of_command ≡ false) (λ _ h. h) (λ _ h. h) h
 of-told r (Prints line plain) h = h
 of-told r (DamagedLine text) h = h
-of-told r CommandStarts h = absurd (cc)
+of-told r (CommandStarts names) h = absurd (cc)
+of-told r (Cancels why) h = h
 of-told r (CommandOver end) h = h
 of-told r e h = sym (ap (λ (x : RunState). x.of_command) (aside-told r e refl)) ∙ h
 
@@ -71,7 +72,8 @@ held-told r (CargoFails f line plain) = cond_both (disagrees r f) (with_report r
     (λ (x : RunState). (record x { others = after_failure r.others }).held ≡ r.held) (λ _. refl) (λ _. refl)
 held-told r (Prints line plain) = refl
 held-told r (DamagedLine text) = refl
-held-told r CommandStarts = refl
+held-told r (CommandStarts names) = refl
+held-told r (Cancels why) = refl
 held-told r (CommandOver end) = refl
 held-told r e = ap (λ (x : RunState). x.held) (aside-told r e refl)
 
@@ -115,7 +117,8 @@ told-waits r (CargoFails f line plain) =
     omega (arith, ap if_some (none-reported r false))
 told-waits r (Prints line plain) = omega arith
 told-waits r (DamagedLine text) = omega arith
-told-waits r CommandStarts = omega arith
+told-waits r (CommandStarts names) = omega arith
+told-waits r (Cancels why) = omega arith
 told-waits r (CommandOver end) = omega arith
 told-waits r e = omega (arith, ap last_waits (aside-told (ready r e) e refl))
 

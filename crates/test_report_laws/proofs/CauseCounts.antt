@@ -4,7 +4,7 @@ use Rattle.std.specs.List.{count_by, sum_by}
 use Rattle.std.specs.Prelude.{◌-◌}
 use Rattle.std.proofs.lemmas.Bool.{cond_both}
 use Rattle.std.proofs.lemmas.List.Sums.{sum_by-append, sum_by-le-sum_by}
-use Rattle.test_report_events.specs.Event.{CargoFails, CommandOver, CommandStarts, DamagedLine, EventView, HeadingLine, Prints}
+use Rattle.test_report_events.specs.Event.{CargoFails, CommandOver, CommandStarts, Cancels, DamagedLine, EventView, HeadingLine, Prints}
 use Rattle.test_report_laws.proofs.Aside.{aside-early, aside-told}
 use Rattle.test_report_laws.proofs.CargoReports.{Counted, counted-cargo, counted-settled_at, counted-told, if_some, none-reported, only-settled_at, only-told, ready, report_notes, reports-none, waiting}
 use Rattle.test_report_laws.proofs.FileEnds.{counted_run, end-parts, reported_run, suites_over}
@@ -37,7 +37,8 @@ counted-own r (CargoFails f line plain) = counted-cargo (settled r false).run f 
 counted-own r (HeadingLine name path) = λ known low. omega (arith, low)
 counted-own r (Prints line plain) = λ known low. omega (arith, low)
 counted-own r (DamagedLine text) = λ known low. omega (arith, low)
-counted-own r CommandStarts = λ known low. omega (arith, low)
+counted-own r (CommandStarts names) = λ known low. omega (arith, low)
+counted-own r (Cancels why) = λ known low. omega (arith, low)
 counted-own r (CommandOver end) = λ known low. omega (arith, low)
 counted-own r e =
     let same = aside-told (ready r e) e refl in

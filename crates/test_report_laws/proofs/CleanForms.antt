@@ -94,7 +94,7 @@ clean-github_line o (FlakyPassed t) h = nothing
 clean-github_line o (TestSkipped t) h = nothing
 clean-github_line o (SuiteOver s) h = nothing
 
-clean-github_lines : (o : Options) (entries : List EntryView) → All (λ e. (n : NoteView) × IsEntryOf n e) entries → Clean (flat_map (github_line o) entries)
+pub clean-github_lines : (o : Options) (entries : List EntryView) → All (λ e. (n : NoteView) × IsEntryOf n e) entries → Clean (flat_map (github_line o) entries)
 clean-github_lines o [] are = nothing
 clean-github_lines o (e ∷ es) are =
     let is = All-head (λ e. (n : NoteView) × IsEntryOf n e) e es are in

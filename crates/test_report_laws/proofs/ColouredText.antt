@@ -207,13 +207,13 @@ module _ (o : Options) (raw : o.raw ≡ false) where
   coloured-listed : (e : EntryView) → Coloured (item o e) (item plain e)
   unfolding finished_output skipped_output
   coloured-listed (TestFailed t f w) =
-      listed-coloured (finished_output o (finish_for f.kind) t.attempts t.slow).store_final
+      listed-coloured (finished_output o (finish_for f.kind) t.attempts t.slow t.cancel).store_final
       (coloured-reason t (failed_word f.kind) w.short (clean-failed_word f.kind)) (coloured-why 13 (text_why o t f w))
   coloured-listed (TestPassed t) =
-      listed-coloured (finished_output o Passed t.attempts t.slow).store_final
+      listed-coloured (finished_output o Passed t.attempts t.slow t.cancel).store_final
       (coloured-ended t (listed_word t.attempts t.slow) (clean-listed_word t.attempts t.slow)) (coloured-some 13 (passed_output t.outcome))
   coloured-listed (TestSkipped t) =
-      listed-coloured (skipped_output o).store_final (coloured-ended t (codes "SKIP") (own.word (codes "SKIP") refl)) none
+      listed-coloured (skipped_output o t.cancel).store_final (coloured-ended t (codes "SKIP") (own.word (codes "SKIP") refl)) none
   coloured-listed (FlakyPassed t) = none
   coloured-listed (LinesDisagree d why) = none
   coloured-listed (SuiteNotRun suite n of) = none
@@ -279,20 +279,20 @@ module _ (o : Options) (raw : o.raw ≡ false) where
   coloured-passed : (t : TestNoteView) → Coloured (passed_text o t) (passed_text plain t)
   unfolding passed_text finished_output
   coloured-passed t =
-      coloured-text (shown_if (has_output t.outcome) (finished_output o Passed t.attempts t.slow))
+      coloured-text (shown_if (has_output t.outcome) (finished_output o Passed t.attempts t.slow t.cancel))
       (coloured-end t (passed_word t.attempts) (clean-passed_word t.attempts)) (coloured-some 4 (passed_output t.outcome))
 
   pub coloured-entry : (e : EntryView) → Coloured (text_line o e) (text_line plain e)
   unfolding failed_text counted_text skipped_text finished_output skipped_output advice cargo_advice
   coloured-entry (TestFailed t f w) =
-      coloured-text (finished_output o (finish_for f.kind) t.attempts t.slow) (coloured-head t (failed_word f.kind) (clean-failed_word f.kind))
+      coloured-text (finished_output o (finish_for f.kind) t.attempts t.slow t.cancel) (coloured-head t (failed_word f.kind) (clean-failed_word f.kind))
       (coloured-why 4 (text_why o t f w))
   coloured-entry (TestPassed t) =
       elim (nat_lt 1 t.attempts) as (λ b. Coloured (if b then [] else passed_text o t) (if b then [] else passed_text plain t))
       [ true ↦ none | false ↦ coloured-passed t ]
   coloured-entry (FlakyPassed t) = coloured-passed t
   coloured-entry (TestSkipped t) =
-      coloured-text (skipped_output o) (coloured-end t (codes "SKIP") (own.word (codes "SKIP") refl)) none
+      coloured-text (skipped_output o t.cancel) (coloured-end t (codes "SKIP") (own.word (codes "SKIP") refl)) none
   coloured-entry (LinesDisagree d why) =
       same (clean.also (own.clean (clean-disagreement d)) (clean.also (word (codes "\n") refl) (clean.also (clean-reason why) (clean-advice _))))
   coloured-entry (SuiteNotRun suite n of) = same (clean.also (own.clean (clean-not_run suite n of)) (word (codes "\n") refl))

@@ -14,20 +14,21 @@ use Rattle.test_report_run.specs.Run.{RunState, after, run_start}
 
 -- the last event of the output of a command is its end
 last-event : (input : InputView) (file : List EventView) (end : CommandView) (has : HasEvents input file) → input.command ≡ Some end
-    → file ≡ in-order (events_before (Some end) ++ has.say.own) ++ CommandOver end ∷ []
+    → file ≡ in-order (events_before input.names (Some end) ++ has.say.own) ++ CommandOver end ∷ []
 last-event input file end has is =
-    let before = events_before (Some end) in
+    let before = events_before input.names (Some end) in
     let own = has.say.own in
     has.are
     ∙ (ap in-order
-    (has.say.are ∙ (ap (λ (o : Option CommandView). events_before o ++ (own ++ events_after o)) is ∙ sym (append_assoc before own (events_after (Some end)))))
+    (has.say.are ∙ (ap (λ (o : Option CommandView). events_before input.names o ++ (own ++ events_after o)) is
+    ∙ sym (append_assoc before own (events_after (Some end)))))
     ∙ flat_map-append (λ (line : List EventView). line) (before ++ own) (events_after (Some end)))
 
 -- so at the end of its file the run has it
 command-of : (first : RunState) (input : InputView) (file : List EventView) (end : CommandView) → HasEvents input file → input.command ≡ Some end
     → (run_after first file).command ≡ Some end
 command-of first input file end has is =
-    let lines = in-order (events_before (Some end) ++ has.say.own) in
+    let lines = in-order (events_before input.names (Some end) ++ has.say.own) in
     ap (λ (f : List EventView). (run_after first f).command) (last-event input file end has is)
     ∙ ap (λ (x : RunState). x.command) (fold-append after first lines (CommandOver end ∷ []))
 

@@ -269,13 +269,13 @@ entry-commands text None h = subst AreCommands (sym h) no-commands
 entry-commands text (Some b) h =
     subst AreCommands (sym (h.0 ∙ ap (λ l. b.line ++ (codes "\n" ++ l)) h.2)) (one-command b.line h.1)
 
-pub own-commands : (o : Options) (e : EntryView) → (n : NoteView) × IsEntryOf n e → AreCommands (github_line o e)
+own-commands : (o : Options) (e : EntryView) → (n : NoteView) × IsEntryOf n e → AreCommands (github_line o e)
 own-commands o e is = entry-commands (github_line o e) (github_block o e) (one-entry o e (entry-numbers is.0 e is.1))
 
 abbrev OfNotes : List EntryView → Type 0
 OfNotes entries = All (λ e. (n : NoteView) × IsEntryOf n e) entries
 
-all-commands : (o : Options) (entries : List EntryView) → OfNotes entries → AreCommands (flat_map (github_line o) entries)
+pub all-commands : (o : Options) (entries : List EntryView) → OfNotes entries → AreCommands (flat_map (github_line o) entries)
 all-commands o [] are = no-commands
 all-commands o (e ∷ es) are =
     let is = All-head (λ e. (n : NoteView) × IsEntryOf n e) e es are in

@@ -21,7 +21,7 @@ use Rattle.test_report_run.specs.Others.{OthersView}
 use Rattle.test_report_run.specs.Over.{crash_again, crash_of, early_disagreements, early_notes, early_state, explained_of, failed_notes, flaky_note, flaky_notes, last_notes, number_notes}
 use Rattle.test_report_run.specs.Run.{RunState, Step, command_notes, counts_tests, ended_at, ended_early, file_end, file_notes, tests_in, no_event_notes, notes_at, open_suite, opened, reports_told, running_ends, running_over, settled_at, started_again, step, stray_ends, stray_over, stray_suite_notes, stray_test, suite_at, suite_place, told, with_suite_at, without_tests}
 use Rattle.test_report_run.specs.Running.{RunningView, is_same, place_of_end, running_at}
-use Rattle.test_report_run.specs.Suite.{FlakyView, OverView, SuiteState, named, outside_start, suite_name, with_line}
+use Rattle.test_report_run.specs.Suite.{FlakyView, OverView, SuiteState, cancelled_by, named, outside_start, suite_name, with_line}
 
 -- a crashed test weighs 1
 abbrev weight_of : Option Crashed → ℕ
@@ -106,16 +106,17 @@ last-weight s e tests = omega (
 again-below : (r : RunState) (key : Option (List ℕ)) (count : Option ℕ) (at : Option ℕ)
     → AreBelow None (option_map_or (started_again r key count) at (step (opened r key count) [])).notes
 again-below r key count None = tt
-again-below r None count (Some at) = early-below r.others (suite_at r (Some at)) (tests_in r (suite_at r (Some at)))
+again-below r None count (Some at) = early-below r.others (cancelled_by r.cancel (suite_at r (Some at))) (tests_in r (suite_at r (Some at)))
 again-below r (Some key) count (Some at) = tt
 
 over-below : (r : RunState) (e : SuiteEndView) (at : ℕ) (over : Bool) → let s = with_line (suite_at r (Some at)) e in
-    AreBelow None (if over then step (without_tests (record r { suites = remove r.suites at }) s) (last_notes s (tests_in r s))
+    AreBelow None (if over then step (without_tests (record r { suites = remove r.suites at }) s) (last_notes (cancelled_by r.cancel s) (tests_in r s))
     else step (with_suite_at r (Some at) s) []).notes
 over-below r e at true =
     let s = with_line (suite_at r (Some at)) e in
     let tests = tests_in r s in
-    others-below None (last_by s (explained_of s (length tests)) tests) (last-weight s (explained_of s (length tests)) tests)
+    let own = cancelled_by r.cancel s in
+    others-below None (last_by own (explained_of s (length tests)) tests) (last-weight own (explained_of s (length tests)) tests)
 over-below r e at false = tt
 
 ended-below : (r : RunState) (e : SuiteEndView) (at : Option ℕ)
@@ -162,8 +163,9 @@ suites-below : (t : Step) (suites : List SuiteState) → AreBelow None t.notes �
 suites-below t [] h = h
 suites-below t (s ∷ suites) h =
     let tests = tests_in t.run s in
+    let own = cancelled_by t.run.cancel s in
     suites-below (ended_early t s) suites
-    (below-append None t.notes (early_notes t.run.others s tests) h (early-below t.run.others s tests))
+    (below-append None t.notes (early_notes t.run.others own tests) h (early-below t.run.others own tests))
 
 all-below : (r : RunState) → AreBelow None (suites_over r).notes
 all-below r =

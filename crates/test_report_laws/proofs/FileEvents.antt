@@ -6,7 +6,7 @@ use Rattle.std.specs.Prelude.{◌==◌, ◌&&◌, ◌||◌, if◌then◌else◌,
 use Rattle.std.proofs.lemmas.Bool.{cases_lt, eqb-true}
 use Rattle.std.proofs.lemmas.Bool.Decides.{nat_tests}
 use Rattle.std.proofs.lemmas.List.Sums.{sum_by-append, sum_by-cons}
-use Rattle.test_report_events.specs.Event.{BySignal, CargoFails, CommandOver, CommandStarts, CommandView, DamagedLine, EventView, HeadingLine, NotStarted, OtherLine, Prints, SuiteEnds, SuiteStarts, TestEnds, TestIsSlow, TestStarts, WithStatus}
+use Rattle.test_report_events.specs.Event.{BySignal, CargoFails, CommandOver, CommandStarts, Cancels, CommandView, DamagedLine, EventView, HeadingLine, NotStarted, OtherLine, Prints, SuiteEnds, SuiteStarts, TestEnds, TestIsSlow, TestStarts, WithStatus}
 use Rattle.test_report_laws.proofs.Aside.{aside-early}
 use Rattle.test_report_laws.proofs.CargoReports.{only-cargo, only-settled_at, only-told, ready}
 use Rattle.test_report_laws.proofs.CauseCounts.{Bound, bound-after, bound-told, none-waits, quiet-causes}
@@ -32,7 +32,8 @@ none-told r (HeadingLine name path) other = refl
 none-told r (CargoFails f line plain) other = ap (λ (x : RunState). x.has_event) (only-cargo r f plain).run_is
 none-told r (Prints line plain) other = refl
 none-told r (DamagedLine text) other = refl
-none-told r CommandStarts other = refl
+none-told r (CommandStarts names) other = refl
+none-told r (Cancels why) other = refl
 none-told r (CommandOver end) other = refl
 
 none-after : (r : RunState) (e : EventView) → is_event e ≡ false → (after r e).has_event ≡ (told (ready r e) e).run.has_event

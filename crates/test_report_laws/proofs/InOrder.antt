@@ -29,7 +29,7 @@ use Rattle.test_report_run.specs.Over.{last_notes}
 use Rattle.test_report_run.specs.Run.{RunState, counts_tests, ended_at, has_failed, is_cause, is_disagreement, tests_in, notes_at, open_suite, opened, run_start, settled_at, started_again, step, stray_suite_notes, suite_at, told, with_suite_at, without_tests}
 use Rattle.test_report_run.specs.Said.{numbers_of}
 use Rattle.test_report_laws.specs.Status.{EndsInOrder, IsInOrder, SuccessIsInOrder}
-use Rattle.test_report_run.specs.Suite.{SuiteState, failed_of, has_key, with_line}
+use Rattle.test_report_run.specs.Suite.{SuiteState, cancelled_by, failed_of, has_key, with_line}
 use Rattle.test_report_laws.specs.Whole.{IsLineOf, all_notes, notes_of, run_after, run_after_files}
 
 module _ (slow : ℕ) (files : List (List EventView)) (clean : IsClean (all_notes slow files)) where
@@ -75,17 +75,18 @@ module _ (slow : ℕ) (files : List (List EventView)) (clean : IsClean (all_note
 
   -- the last line of a suite
   over-notes : (r : RunState) (e : SuiteEndView) (at : ℕ) → open_suite r e.key ≡ Some at → (with_line (suite_at r (Some at)) e).open_lines ≡ 0
-      → (told r (SuiteEnds e)).notes ≡ last_notes (with_line (suite_at r (Some at)) e) (tests_in r (with_line (suite_at r (Some at)) e))
+      → (told r (SuiteEnds e)).notes
+      ≡ last_notes (cancelled_by r.cancel (with_line (suite_at r (Some at)) e)) (tests_in r (with_line (suite_at r (Some at)) e))
   over-notes r e at is over =
       let s : SuiteState = with_line (suite_at r (Some at)) e in
-      let last = step (without_tests (record r { suites = remove r.suites at }) s) (last_notes s (tests_in r s)) in
+      let last = step (without_tests (record r { suites = remove r.suites at }) s) (last_notes (cancelled_by r.cancel s) (tests_in r s)) in
       ap (λ (place : Option ℕ). (option_map_or (ended_at r e) place (step r (stray_suite_notes e))).notes) is
       ∙ ap (λ (n : ℕ). (if n == 0 then last else step (with_suite_at r (Some at) s) []).notes) over
 
   -- also if failures of cargo become known before
   own-notes : (r : RunState) (e : SuiteEndView) (at : ℕ) → open_suite r e.key ≡ Some at → (with_line (suite_at r (Some at)) e).open_lines ≡ 0
       → (told (ready r (SuiteEnds e)) (SuiteEnds e)).notes
-      ≡ last_notes (with_line (suite_at r (Some at)) e) (tests_in r (with_line (suite_at r (Some at)) e))
+      ≡ last_notes (cancelled_by r.cancel (with_line (suite_at r (Some at)) e)) (tests_in r (with_line (suite_at r (Some at)) e))
   own-notes r e at is over =
       let only = only-settled_at r (SuiteEnds e) in
       ap (λ (x : RunState). (told x (SuiteEnds e)).notes) only.run_is
@@ -93,17 +94,17 @@ module _ (slow : ℕ) (files : List (List EventView)) (clean : IsClean (all_note
 
   ends-well : (r : RunState) (e : SuiteEndView) (at : ℕ) → IsLineOf slow files r (SuiteEnds e) → open_suite r e.key ≡ Some at
       → (with_line (suite_at r (Some at)) e).open_lines ≡ 0
-      → EndsInOrder (with_line (suite_at r (Some at)) e) (tests_in r (with_line (suite_at r (Some at)) e))
+      → EndsInOrder (cancelled_by r.cancel (with_line (suite_at r (Some at)) e)) (tests_in r (with_line (suite_at r (Some at)) e))
   ends-well r e at line is over =
       let old = suite_at r (Some at) in
       let s : SuiteState = with_line old e in
       let tests = tests_in r s in
-      let now : IsClean (last_notes s tests) = subst IsClean (own-notes r e at is over) (clean-line r (SuiteEnds e) line) in
+      let now : IsClean (last_notes (cancelled_by r.cancel s) tests) = subst IsClean (own-notes r e at is over) (clean-line r (SuiteEnds e) line) in
       let in' : at < length r.suites = position-in (has_key e.key) r.suites (Some at) is in
       let some : s.number ≢ None = has-number r at (numbered r line.before line.lines line.run_is) in' in
       let sound = All-get_or IsSound r.suites at r.outside in' (suites-sound slow line.before line.lines r line.run_is).1 in
-      let agrees = (last-agrees s tests some record { retried = sound.retried; passed = sound.passed }).0 now.none_disagree in
-      let none : failed_of s.stats + failed_in (last_notes s tests) ≡ 0 = omega (
+      let agrees = (last-agrees (cancelled_by r.cancel s) tests some record { retried = sound.retried; passed = sound.passed }).0 now.none_disagree in
+      let none : failed_of s.stats + failed_in (last_notes (cancelled_by r.cancel s) tests) ≡ 0 = omega (
         arith,
         now.none_failed,
         clean.none_failed,
@@ -111,8 +112,8 @@ module _ (slow : ℕ) (files : List (List EventView)) (clean : IsClean (all_note
         known-before (λ x. cond (is_test (λ t. has_failed t.outcome) x) 1 0) r (SuiteEnds e) line,
       ) in
       record {
-        numbers = subst (Agrees (numbers_of s.said) (s.stats.passed + passed_in (last_notes s tests))) none agrees;
-        no_test_lost = (clean-whole s tests now).no_test_lost;
+        numbers = subst (Agrees (numbers_of s.said) (s.stats.passed + passed_in (last_notes (cancelled_by r.cancel s) tests))) none agrees;
+        no_test_lost = (clean-whole (cancelled_by r.cancel s) tests now).no_test_lost;
       }
 
   -- the first line of a suite without key
@@ -121,7 +122,8 @@ module _ (slow : ℕ) (files : List (List EventView)) (clean : IsClean (all_note
   none-ends r count None is fine none = refl
   none-ends r count (Some at) is fine none =
       let s = suite_at r (Some at) in
-      absurd (omega (arith, none, early-cause r.others s (tests_in r s) (has-number r at fine (position-in (has_key None) r.suites (Some at) is))))
+      let own = cancelled_by r.cancel s in
+      absurd (omega (arith, none, early-cause r.others own (tests_in r s) (has-number r at fine (position-in (has_key None) r.suites (Some at) is))))
 
   not-one : (b : Bool) → ◌≡◌ {A = ℕ} (if b then 1 else 0) 0 → b ≡ false
   not-one true h = absurd (cc)

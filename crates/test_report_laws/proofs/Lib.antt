@@ -2,6 +2,7 @@ pub mod Annotated
 pub mod Announced
 pub mod Aside
 pub mod Books
+pub mod Cancellation
 pub mod CargoFailures
 pub mod CargoReports
 pub mod CauseCounts
@@ -58,5 +59,7 @@ pub mod Tallies
 pub mod TextLines
 pub mod ToldFailures
 pub mod Types
+pub mod Uncancelled
 pub mod Verdicts
+pub mod Visibility
 pub mod Weights

@@ -23,6 +23,7 @@ use Rattle.run_events_levels.specs.declared.levels.OutputStoreFinal.{OutputStore
 use Rattle.run_events_levels.specs.declared.levels.OutputStoreFinal.TheVariants as store
 use Rattle.run_events_settings.specs.Config.{is_final_display}
 use Rattle.test_report_forms.specs.Entry.{EntryView, FlakyPassed, LinesDisagree, SuiteNotRun, SuiteOver, TestFailed, TestPassed, TestSkipped}
+use Rattle.test_report_laws.proofs.Visibility.{asked, keeps-output}
 use Rattle.test_report_forms.specs.Levels.{finished_output, has_line, listed_text, shown_if, skipped_output, own_final_level}
 use Rattle.test_report_forms.specs.List.{KeyedLine, ended_before, ended_line, failed_line, final_level_of, flaky_lines, flaky_of, item, item_at, list_line, part_at, listed_word, passed_word, put_falling, put_rising, short_list, slow_line, slow_lines, slow_of, text_of_lines, timed, line_at}
 use Rattle.test_report_forms.specs.Lines.{without_returns}
@@ -93,7 +94,8 @@ module _ (o : Options) where
   failed-written t f w =
       let note = attempts_note t.attempts in
       let status = status_text o.color (failed_word f.kind) in
-      ended-written (finished_output o (finish_for f.kind) t.attempts t.slow) (ended_words o (failed_word f.kind) t note) (failed_head o t (failed_word f.kind))
+      ended-written (finished_output o (finish_for f.kind) t.attempts t.slow t.cancel) (ended_words o (failed_word f.kind) t note)
+      (failed_head o t (failed_word f.kind))
       (why_lines 4 o (text_why o t f w)) (words-end status (codes " ") (bracket t.time) (title t) note (codes "\n"))
       (in-words (failed_word f.kind) t note (clean-failed_word f.kind) (clean-attempts t.attempts)) (lines-why 4 (text_why o t f w))
 
@@ -121,7 +123,8 @@ module _ (o : Options) where
   passed-written : (t : TestNoteView) → IsWritten (passed_text o t) (passed_block o t)
   unfolding passed_text
   passed-written t =
-      other-written (shown_if (has_output t.outcome) (finished_output o Passed t.attempts t.slow)) t (passed_word t.attempts) (output_lines 4 o t.outcome)
+      other-written (shown_if (has_output t.outcome) (finished_output o Passed t.attempts t.slow t.cancel)) t (passed_word t.attempts)
+      (output_lines 4 o t.outcome)
       (clean-passed_word t.attempts) (lines-output 4 t.outcome)
 
   lines-reason : (why : Option (List ℕ)) → IsLines (option_map_or (indented 4 o.raw) why [])
@@ -147,7 +150,7 @@ module _ (o : Options) where
       elim (nat_lt 1 t.attempts) as (λ b. IsWritten (if b then [] else passed_text o t) (if b then None else passed_block o t))
       [ true ↦ refl | false ↦ passed-written t ]
   entry-written (FlakyPassed t) = passed-written t
-  entry-written (TestSkipped t) = other-written (skipped_output o) t (codes "SKIP") [] (word (codes "SKIP") refl) (inl refl)
+  entry-written (TestSkipped t) = other-written (skipped_output o t.cancel) t (codes "SKIP") [] (word (codes "SKIP") refl) (inl refl)
   entry-written (SuiteOver s) = refl
 
   -- the lines of the list, each with a space
@@ -292,22 +295,13 @@ module _ (o : Options) where
   rule-own store.No line h = no-rules
   rule-own (store.Yes output) line h = no-rule-both line (if output then [] else []) h (rule-under output [] (λ e. no-rules))
 
-  -- why a failed test failed is shown in the list if the options say so
-  failed-stored : (kind : KindView) (attempts : ℕ) (slow : Bool) → (stored : Bool)
-      × ((finished_output o (finish_for kind) attempts slow).store_final
-      ≡ (if stored then store.Yes (is_final_display o.failure_output) else store.No))
-  unfolding finished_output
-  failed-stored HasFailed attempts slow = (_, refl)
-  failed-stored HasTimedOut attempts slow = (_, refl)
-  failed-stored HasNoEnd attempts slow = (_, refl)
-  failed-stored IsFlaky attempts slow = (_, refl)
-  failed-stored (HasCrashed crash) attempts slow = (_, refl)
-
-  -- the output of a test that passed is shown in the list if the options say so
-  passed-stored : (attempts : ℕ) (slow : Bool) → (stored : Bool)
-      × ((finished_output o Passed attempts slow).store_final ≡ (if stored then store.Yes (is_final_display o.success_output) else store.No))
-  unfolding finished_output
-  passed-stored attempts slow = (_, refl)
+  -- why a failed test failed is shown in the list only if the options say so
+  failed-asked : (kind : KindView) (attempts : ℕ) (slow : Bool) → (asked o (finish_for kind) attempts slow).at_end ≡ is_final_display o.failure_output
+  failed-asked HasFailed attempts slow = refl
+  failed-asked HasTimedOut attempts slow = refl
+  failed-asked HasNoEnd attempts slow = refl
+  failed-asked IsFlaky attempts slow = refl
+  failed-asked (HasCrashed crash) attempts slow = refl
 
   -- each line of the entry is shown in one line
   pub record IsEntryInLines (e : EntryView) : Type 0 where
@@ -345,20 +339,20 @@ module _ (o : Options) where
 
   item-no-rule : (e : EntryView) → IsEntryInLines e → AddsNoRule (item o e)
   item-no-rule (TestFailed t f w) h =
-      let stored = failed-stored f.kind t.attempts t.slow in
+      let stored = keeps-output o (finish_for f.kind) t.attempts t.slow t.cancel in
       let line = failed_line o t (failed_word f.kind) w.short in
       let why = why_lines 13 o (text_why o t f w) in
-      subst (λ s. AddsNoRule (listed_text s line why)) (sym stored.1)
-      (rule-listed stored.0 (is_final_display o.failure_output) line why
+      subst (λ s. AddsNoRule (listed_text s line why)) (sym stored.2)
+      (rule-listed stored.0 stored.1 line why
       (failed-no-rule t (failed_word f.kind) w.short (clean-failed_word f.kind) h.short)
-      (λ shown. why-no-rule (text_why o t f w) (h.why shown)))
+      (λ shown. why-no-rule (text_why o t f w) (h.why (sym (failed-asked f.kind t.attempts t.slow) ∙ stored.3 shown))))
   item-no-rule (TestPassed t) h =
-      let stored = passed-stored t.attempts t.slow in
+      let stored = keeps-output o Passed t.attempts t.slow t.cancel in
       let word = listed_word t.attempts t.slow in
       let below = output_lines 13 o t.outcome in
-      subst (λ s. AddsNoRule (listed_text s (ended_line o t word) below)) (sym stored.1)
-      (rule-listed stored.0 (is_final_display o.success_output) (ended_line o t word) below
-      (ended-item t word (clean-listed_word t.attempts t.slow)).no_rule (λ shown. some-no-rule (passed_output t.outcome) (h.output shown)))
+      subst (λ s. AddsNoRule (listed_text s (ended_line o t word) below)) (sym stored.2)
+      (rule-listed stored.0 stored.1 (ended_line o t word) below
+      (ended-item t word (clean-listed_word t.attempts t.slow)).no_rule (λ shown. some-no-rule (passed_output t.outcome) (h.output (stored.3 shown))))
   item-no-rule (FlakyPassed t) h = no-rules
   item-no-rule (TestSkipped t) h = rule-own _ _ (ended-item t (codes "SKIP") (word (codes "SKIP") refl)).no_rule
   item-no-rule (LinesDisagree d why) h = no-rules
@@ -378,7 +372,7 @@ module _ (o : Options) where
   failed-listed t f w h =
       let status = failed_word f.kind in
       let shown = shown_text o.raw (front w.short o.limit) in
-      let kept = (finished_output o (finish_for f.kind) t.attempts t.slow).store_final in
+      let kept = (finished_output o (finish_for f.kind) t.attempts t.slow t.cancel).store_final in
       let line = list_line o status t ++ (codes ": " ++ shown) in
       let why = why_lines 13 o (text_why o t f w) in
       let one = also (in-list_line status t (clean-failed_word f.kind)) (also (in-line (word (codes ": ") refl)) h) in

@@ -24,7 +24,7 @@ use Rattle.test_report_run.specs.Run.{RunState, Step, after, counts_tests, ended
 use Rattle.test_report_run.specs.Running.{RunningView, place_of_end, running_at}
 use Rattle.test_report_laws.specs.Status.{NotRunIsNamed, named_not_run}
 use Rattle.test_report_run.specs.Name.{given_by, name_of}
-use Rattle.test_report_run.specs.Suite.{OverView, SuiteState, has_key, named, outside_start, suite_name, with_line, with_start}
+use Rattle.test_report_run.specs.Suite.{OverView, SuiteState, cancelled_by, has_key, named, outside_start, suite_name, with_line, with_start}
 use Rattle.test_report_laws.proofs.Types.{Explanation, Rest}
 
 -- a weight of notes, in which those of tests, of ends of flaky tests and of disagreements weigh nothing
@@ -159,16 +159,16 @@ same-first : (r : RunState) (key : Option (List ℕ)) (count : Option ℕ) (at :
 same-first r key count None in' numbered = refl
 same-first r (Some key) count (Some at) in' numbered = refl
 same-first r None count (Some at) in' numbered =
-    let s = suite_at r (Some at) in same-early r.others s (tests_in r s) (λ zero. absurd (has-number r at numbered in' zero))
+    let s = cancelled_by r.cancel (suite_at r (Some at)) in same-early r.others s (tests_in r s) (λ zero. absurd (has-number r at numbered in' zero))
 
 same-over : (r : RunState) (e : SuiteEndView) (at : ℕ) (over : Bool) → at < length r.suites → weight_of unnumbered r ≡ 0
     → let s = with_line (suite_at r (Some at)) e in
-    Same (if over then step (without_tests (record r { suites = remove r.suites at }) s) (last_notes s (tests_in r s))
+    Same (if over then step (without_tests (record r { suites = remove r.suites at }) s) (last_notes (cancelled_by r.cancel s) (tests_in r s))
     else step (with_suite_at r (Some at) s) []).notes
 same-over r e at true in' numbered =
     let s = with_line (suite_at r (Some at)) e in
     let tests = tests_in r s in
-    same-last s (explained_of s (length tests)) tests (has-number r at numbered in')
+    same-last (cancelled_by r.cancel s) (explained_of s (length tests)) tests (has-number r at numbered in')
 same-over r e at false in' numbered = refl
 
 same-ended : (r : RunState) (e : SuiteEndView) (at : Option ℕ) → IsIn r.suites at → weight_of unnumbered r ≡ 0
@@ -267,8 +267,8 @@ same-ends t (s ∷ suites) numbered same =
     let tests = tests_in t.run s in
     let parts = sum_by-cons (weigh unnumbered) s suites in
     same-ends (ended_early t s) suites (omega arith)
-    (same-append t.notes (early_notes t.run.others s tests) same
-    (same-early t.run.others s tests (λ zero. absurd (omega (arith, ap (λ n. unnumbered n s.said s.test_count) zero)))))
+    (same-append t.notes (early_notes t.run.others (cancelled_by t.run.cancel s) tests) same
+    (same-early t.run.others (cancelled_by t.run.cancel s) tests (λ zero. absurd (omega (arith, ap (λ n. unnumbered n s.said s.test_count) zero)))))
 
 same-end : (r : RunState) → weight_of unnumbered r ≡ 0 → IsUnannounced r → Same (file_notes r)
 same-end r numbered none =
@@ -277,9 +277,11 @@ same-end r numbered none =
     let ended = fold ended_early start now.suites in
     let tests = tests_in (record (ended.run) { outside = outside_start }) now.outside in
     let unannounced = ap (λ (x : RunState). x.outside.test_count) (only-told r).run_is ∙ none in
-    let same : Same (ended.notes ++ early_notes ended.run.others now.outside tests) = same-append ended.notes (early_notes ended.run.others now.outside tests)
+    let own = cancelled_by ended.run.cancel now.outside in
+    let last = early_notes ended.run.others own tests in
+    let same : Same (ended.notes ++ last) = same-append ended.notes last
     (same-ends start now.suites (numbered-reported r numbered) refl)
-    (same-early ended.run.others now.outside tests (λ zero. unannounced)) in
+    (same-early ended.run.others own tests (λ zero. unannounced)) in
     omega (arith, same, suites-alone named_not_run (λ d. refl) r, suites-alone not_run_of (λ d. refl) r)
 
 -- what holds at each line and at each end of a file

@@ -149,7 +149,7 @@ no-lines = record { is = λ q. q }
 both : {xs ys : List ℕ} → Lines xs → Lines ys → Lines (xs ++ ys)
 both {xs} {ys} a b = record { is = λ {rest} q. subst (Quiet true) (sym (append_assoc xs ys rest)) (a.is (b.is q)) }
 
-each : {X : Type 0} (f : X → List ℕ) → ((x : X) → Lines (f x)) → (xs : List X) → Lines (flat_map f xs)
+pub each : {X : Type 0} (f : X → List ℕ) → ((x : X) → Lines (f x)) → (xs : List X) → Lines (flat_map f xs)
 each f h [] = no-lines
 each f h (x ∷ xs) = both (h x) (each f h xs)
 
@@ -432,18 +432,18 @@ module _ (o : Options) (raw : o.raw ≡ false) where
   passed-lines : (t : TestNoteView) → Lines (passed_text o t)
   unfolding passed_text
   passed-lines t =
-      ended-text (shown_if (has_output t.outcome) (finished_output o Passed t.attempts t.slow)) (ended_head o t (passed_word t.attempts))
+      ended-text (shown_if (has_output t.outcome) (finished_output o Passed t.attempts t.slow t.cancel)) (ended_head o t (passed_word t.attempts))
       (output_lines 4 o t.outcome) (ended-head t (passed_word t.attempts) (passed-status t.attempts)) (some-lines 4 (passed_output t.outcome))
 
   pub text-entry : (e : EntryView) → Lines (text_line o e)
   unfolding failed_text counted_text skipped_text advice cargo_advice
   text-entry (TestFailed t f w) =
-      ended-text (finished_output o (finish_for f.kind) t.attempts t.slow) (failed_head o t (failed_word f.kind)) (why_lines 4 o (text_why o t f w))
+      ended-text (finished_output o (finish_for f.kind) t.attempts t.slow t.cancel) (failed_head o t (failed_word f.kind)) (why_lines 4 o (text_why o t f w))
       (head-line t (failed_word f.kind) (failed-status f.kind)) (why-lines 4 (text_why o t f w))
   text-entry (TestPassed t) = lines-if (nat_lt 1 t.attempts) (passed-lines t)
   text-entry (FlakyPassed t) = passed-lines t
   text-entry (TestSkipped t) =
-      ended-text (skipped_output o) (ended_head o t (codes "SKIP")) [] (ended-head t (codes "SKIP") skipped-status) no-lines
+      ended-text (skipped_output o t.cancel) (ended_head o t (codes "SKIP")) [] (ended-head t (codes "SKIP") skipped-status) no-lines
   text-entry (LinesDisagree d why) =
       subst Lines (append_assoc (disagreement_line d) (codes "\n") _) (both (one-line (disagreement-opens d)) (both (reason-lines why) (advice-lines _)))
   text-entry (SuiteNotRun suite n of) = one-line (not-run-opens suite n of)

@@ -1,7 +1,8 @@
 -- Why the run of a report does not succeed.
-use Rattle.std.proofs.Common.{◌≡◌, ◌∙◌, ◌++◌, ◌<◌, ℕ, zero, suc, List, [], ◌∷◌, Option, Some, None, IfSome, ap, arith, codes, if◌then◌else◌, inl, inr, length, option_map, refl, true, subst, sym}
+use Rattle.std.proofs.Common.{◌≡◌, ◌∙◌, ◌++◌, ◌<◌, ℕ, zero, suc, List, [], ◌∷◌, Option, Some, None, IfSome, ap, append-nil, arith, codes, if◌then◌else◌, inl, inr, length, option_map, refl, true, subst, sym}
 use Rattle.std.specs.List.{All, AllZip, cons_option, filter_map, flat_map, slice_index_or}
 use Rattle.std.specs.Prelude.{◌||◌, ◌⊎◌, Bool, Contains, IsTrue, max, nat_le, nat_lt, unwrap_or}
+use Rattle.std.proofs.lemmas.List.Concat.{flat_map-append}
 use Rattle.std.proofs.lemmas.Bool.Decides.{nat_tests}
 use Rattle.std.proofs.lemmas.Bool.{false_from_ne_true}
 use Rattle.std.proofs.lemmas.List.Elements.{All-cons, All-head, All-nil, Contains-append_right}
@@ -52,9 +53,10 @@ use Rattle.test_report_laws.specs.Status.{RanNoTests, Succeeds}
 use Rattle.test_report_laws.specs.Whole.{all_notes}
 use Rattle.test_report_run.specs.declared.note.RunEnd.{RunEnd}
 use Rattle.test_report_laws.proofs.SameRun.{one-run}
-use Rattle.test_report_laws.specs.Report.{FailureHasReason, FilesNameReason, GithubNamesReason, HasReasonCase, HtmlNamesReason, JunitNamesReason, MarkdownNamesReason, NamesReason, SuccessMeans, TextNamesReason, shows_failures, lists_failures}
+use Rattle.test_report_laws.specs.Report.{FailureHasReason, FilesNameReason, GithubNamesReason, HasReasonCase, HtmlNamesReason, JunitNamesReason, MarkdownNamesReason, NamesReason, SuccessMeans, TextNamesReason, lists_failures, only_texts, shows_failures}
+use Rattle.test_report_laws.proofs.Uncancelled.{IsNotCancelled, none-cancelled}
 use Rattle.test_report_engine.specs.Lines.{InputView}
-use Rattle.test_report_engine.specs.Report.{IsReport}
+use Rattle.test_report_engine.specs.Report.{IsReport, all_entries}
 
 -- what status 0 means
 pub success-means : status.SuccessIsInOrder → SuccessMeans
@@ -110,7 +112,7 @@ has-reason reasons slow inputs entries run are fails =
     elim (reasons slow files (λ is. fails (end ∙ is))) [
       | inl found ↦
           let place = found.1 in
-          let beside = beside-at IsEntryOf (all_notes slow files) entries found.0 place.0 same.1.are place.1 place.2 in
+          let beside = beside-at IsEntryOf (all_notes slow files) (all_entries entries) found.0 place.0 same.1.are place.1 place.2 in
           inl (beside.other, beside.is_one, entry-reason found.0 beside.other beside.related found.2)
       | inr none ↦ inr (end ∙ none.0)
     ]
@@ -261,10 +263,10 @@ cause-at block entries text blocks e is_one reason b =
 
 -- a text that has the block of each cause says a reason
 module _ (block : EntryView → Option Block) (last : List ℕ) (entries : List EntryView) (end : RunEnd) (text : List ℕ)
-    (own : (e : EntryView) → IsTrue (is_reason e) → (b : Block) × (block e ≡ Some b)) where
+    (own : (e : EntryView) → Contains entries e → IsTrue (is_reason e) → (b : Block) × (block e ≡ Some b)) where
   says-reason : HasBlocks text (filter_map block entries) → (RanNoTests end → EndsWith text last)
       → ((e : EntryView) × Contains entries e × IsTrue (is_reason e)) ⊎ RanNoTests end → SaysReason block last entries end text
-  says-reason blocks ends (inl found) = inl (cause-at block entries text blocks found.0 found.1 found.2 (own found.0 found.2))
+  says-reason blocks ends (inl found) = inl (cause-at block entries text blocks found.0 found.1 found.2 (own found.0 found.1 found.2))
   says-reason blocks ends (inr none) = inr (none, ends none)
 
 -- a test that has a line has a block
@@ -272,9 +274,9 @@ shown-own : (shows : OutputOnTestFinished) (line below : List ℕ) → has_line 
 shown-own shows line below has =
     (_, ap (λ t. if t then Some (record { line = line; below = if shows.show_immediate then below else [] }) else None) has)
 
--- a failed test has a line if the levels and displays show failed tests
+-- a failed test has a line if the levels and displays show failed tests, and the run was not cancelled
 failed-shown : (o : Options) (kind : KindView) (attempts : ℕ) (slow : Bool) → shows_failures o ≡ true
-    → has_line (finished_output o (finish_for kind) attempts slow) ≡ true
+    → has_line (finished_output o (finish_for kind) attempts slow None) ≡ true
 unfolding finished_output
 failed-shown o HasFailed attempts slow h = h
 failed-shown o HasTimedOut attempts slow h = h
@@ -285,20 +287,43 @@ failed-shown o IsFlaky attempts slow h =
     ap (λ t. own t || is_immediate_display o.failure_output) several ∙ h
 failed-shown o (HasCrashed crash) attempts slow h = h
 
-text-own : (o : Options) → shows_failures o ≡ true → (e : EntryView) → IsTrue (is_reason e) → (b : Block) × (text_block o e ≡ Some b)
-text-own o shows (TestPassed t) reason = absurd (cc)
-text-own o shows (FlakyPassed t) reason = absurd (cc)
-text-own o shows (TestSkipped t) reason = absurd (cc)
-text-own o shows (TestFailed t f w) reason =
-    shown-own (finished_output o (finish_for f.kind) t.attempts t.slow) (ended_words o (failed_word f.kind) t (attempts_note t.attempts))
-    (why_lines 4 o (text_why o t f w)) (failed-shown o f.kind t.attempts t.slow shows)
-text-own o shows (LinesDisagree d why) reason = (_, refl)
-text-own o shows (SuiteNotRun suite n of) reason = (_, refl)
-text-own o shows (SuiteOver s) reason = absurd (cc)
+-- what the levels show of each failed test among entries has a line
+module _ (o : Options) (entries : List EntryView)
+    (shows : (t : TestNoteView) (f : FailureView) (w : WhyView) → Contains entries (TestFailed t f w)
+    → has_line (finished_output o (finish_for f.kind) t.attempts t.slow t.cancel) ≡ true) where
+  text-own : (e : EntryView) → Contains entries e → IsTrue (is_reason e) → (b : Block) × (text_block o e ≡ Some b)
+  text-own (TestPassed t) is_one reason = absurd (cc)
+  text-own (FlakyPassed t) is_one reason = absurd (cc)
+  text-own (TestSkipped t) is_one reason = absurd (cc)
+  text-own (TestFailed t f w) is_one reason =
+      shown-own (finished_output o (finish_for f.kind) t.attempts t.slow t.cancel) (ended_words o (failed_word f.kind) t (attempts_note t.attempts))
+      (why_lines 4 o (text_why o t f w)) (shows t f w is_one)
+  text-own (LinesDisagree d why) is_one reason = (_, refl)
+  text-own (SuiteNotRun suite n of) is_one reason = (_, refl)
+  text-own (SuiteOver s) is_one reason = absurd (cc)
 
--- a failed test is in the list if the levels and displays list failed tests
+-- and then the lines say a reason
+lines-say : (o : Options) (entries : List EntryView) (end : RunEnd) (text : List ℕ) → TextSays o entries end text
+    → ((t : TestNoteView) (f : FailureView) (w : WhyView) → Contains entries (TestFailed t f w)
+    → has_line (finished_output o (finish_for f.kind) t.attempts t.slow t.cancel) ≡ true)
+    → ((e : EntryView) × Contains entries e × IsTrue (is_reason e)) ⊎ RanNoTests end
+    → SaysReason (text_block o) (codes "outcome no-tests-run") entries end text
+lines-say o entries end text says shows found =
+    says-reason (text_block o) (codes "outcome no-tests-run") entries end text (text-own o entries shows) says.causes
+    (λ none. subst (λ out. EndsWith text (codes "outcome " ++ outcome_word out)) none says.outcome) found
+
+-- so it is if the run was not cancelled before it became known
+fresh-shown : (o : Options) (entries : List EntryView) → All IsNotCancelled entries → shows_failures o ≡ true
+    → (t : TestNoteView) (f : FailureView) (w : WhyView) → Contains entries (TestFailed t f w)
+    → has_line (finished_output o (finish_for f.kind) t.attempts t.slow t.cancel) ≡ true
+fresh-shown o entries fresh shows t f w is_one =
+    ap (λ why. has_line (finished_output o (finish_for f.kind) t.attempts t.slow why))
+    (at-entry entries IsNotCancelled (TestFailed t f w) is_one fresh t f w refl)
+    ∙ failed-shown o f.kind t.attempts t.slow shows
+
+-- a failed test is in the list if the levels and displays list failed tests, and the run was not cancelled
 failed-stored : (o : Options) (kind : KindView) (attempts : ℕ) (slow : Bool) → lists_failures o ≡ true
-    → (finished_output o (finish_for kind) attempts slow).store_final ≡ store.Yes (is_final_display o.failure_output)
+    → (finished_output o (finish_for kind) attempts slow None).store_final ≡ store.Yes (is_final_display o.failure_output)
 unfolding finished_output
 failed-stored o HasFailed attempts slow h = ap (λ s. if s then store.Yes (is_final_display o.failure_output) else store.No) h
 failed-stored o HasTimedOut attempts slow h = ap (λ s. if s then store.Yes (is_final_display o.failure_output) else store.No) h
@@ -312,7 +337,7 @@ failed-stored o (HasCrashed crash) attempts slow h = ap (λ s. if s then store.Y
 
 -- what the list and the other lines of a report for people say of a reason, if its levels and displays list failed tests
 module _ (o : Options) (entries : List EntryView) (end : RunEnd) (text : List ℕ) (says : TextSays o entries end text) (lists : lists_failures o ≡ true)
-    (short : All (IsShortInLine o) entries) where
+    (short : All (IsShortInLine o) entries) (fresh : All IsNotCancelled entries) where
   abbrev no-tests : List ℕ
   no-tests = codes "outcome no-tests-run"
 
@@ -323,7 +348,10 @@ module _ (o : Options) (entries : List EntryView) (end : RunEnd) (text : List �
   list-entry (TestSkipped t) is_one reason = absurd (cc)
   list-entry (TestFailed t f w) is_one reason =
       let line = list_line o (failed_word f.kind) t ++ (codes ": " ++ shown_text o.raw (front w.short o.limit)) in
-      let own = ap (λ s. listed_block s line (why_lines 13 o (text_why o t f w))) (failed-stored o f.kind t.attempts t.slow lists) in
+      let none = at-entry entries IsNotCancelled (TestFailed t f w) is_one fresh t f w refl in
+      let stored = ap (λ why. (finished_output o (finish_for f.kind) t.attempts t.slow why).store_final) none
+      ∙ failed-stored o f.kind t.attempts t.slow lists in
+      let own = ap (λ s. listed_block s line (why_lines 13 o (text_why o t f w))) stored in
       inr (cause-at (list_block o) entries text (says.listed short) (TestFailed t f w) is_one reason (_, own))
   list-entry (LinesDisagree d why) is_one reason = inl (inl (cause-at (text_block o) entries text says.causes (LinesDisagree d why) is_one reason (_, refl)))
   list-entry (SuiteNotRun suite n of) is_one reason =
@@ -391,6 +419,27 @@ none-first : (entries : List EntryView) → flat_map nothing entries ≡ []
 none-first [] = refl
 none-first (e ∷ entries) = none-first entries
 
+-- a form that writes nothing behind the texts of the entries of a line writes the text of each entry, one after the other
+texts-of : (line : EntryView → List ℕ) (entries : List (List EntryView)) → flat_map (only_texts line) entries ≡ flat_map line (all_entries entries)
+texts-of line [] = refl
+texts-of line (es ∷ entries) =
+    ap (λ x. (flat_map line es ++ x) ++ flat_map (only_texts line) entries) (none-first es)
+    ∙ ap (λ x. x ++ flat_map (only_texts line) entries) (append-nil (flat_map line es))
+    ∙ ap (λ x. flat_map line es ++ x) (texts-of line entries)
+    ∙ sym (flat_map-append line es (all_entries entries))
+
+-- the text of its report
+report-text : (slow : ℕ) (line : EntryView → List ℕ) (last : List EntryView → RunEnd → List ℕ) (inputs : List InputView) (text : List ℕ) (end : RunEnd)
+    (report : IsReport slow (only_texts line) last inputs text end)
+    → text ≡ flat_map line (all_entries report.entries) ++ last (all_entries report.entries) end
+report-text slow line last inputs text end report = report.is ∙ ap (λ x. x ++ last (all_entries report.entries) end) (texts-of line report.entries)
+
+-- the text of a report that is written at the end
+end-text : (slow : ℕ) (last : List EntryView → RunEnd → List ℕ) (inputs : List InputView) (text : List ℕ) (end : RunEnd)
+    (report : IsReport slow (only_texts nothing) last inputs text end) → text ≡ last (all_entries report.entries) end
+end-text slow last inputs text end report =
+    report-text slow nothing last inputs text end report ∙ ap (λ x. x ++ last (all_entries report.entries) end) (none-first (all_entries report.entries))
+
 -- a file, if it is there
 if-there : {F : Type 0} (P : List ℕ → Type 0) (last : F → List ℕ) (form : Option F) (text : Option (List ℕ)) → text ≡ option_map last form
     → ((f : F) → P (last f)) → IfSome text P
@@ -405,9 +454,9 @@ if-junit P last Q (Some f) text is each = λ q. subst (λ t. IfSome t (P f)) (sy
 
 -- a report, and the texts of files
 module _ (has_reason : FailureHasReason) where
-  reason-of : (slow : ℕ) (line : EntryView → List ℕ) (last : List EntryView → RunEnd → List ℕ) (inputs : List InputView) (text : List ℕ) (end : RunEnd)
+  reason-of : (slow : ℕ) (line : List EntryView → List ℕ) (last : List EntryView → RunEnd → List ℕ) (inputs : List InputView) (text : List ℕ) (end : RunEnd)
       (report : IsReport slow line last inputs text end) → ¬ (Succeeds end)
-      → ((e : EntryView) × Contains report.entries e × IsTrue (is_reason e)) ⊎ RanNoTests end
+      → ((e : EntryView) × Contains (all_entries report.entries) e × IsTrue (is_reason e)) ⊎ RanNoTests end
   reason-of slow line last inputs text end report fails =
       let same = ap (λ (e : RunEnd). e.outcome) report.end_is in
       elim (has_reason slow inputs report.entries report.run report.are (λ is. fails (same ∙ is))) [
@@ -415,49 +464,55 @@ module _ (has_reason : FailureHasReason) where
         | inr none ↦ inr (same ∙ none)
       ]
 
-  report-names : (slow : ℕ) (name written : List ℕ → List ℕ) (line : EntryView → List ℕ) (last : List EntryView → RunEnd → List ℕ) (inputs : List InputView)
-      (text : List ℕ) (end : RunEnd) (report : IsReport slow line last inputs text end) → NamesCauses name written report.entries end text
-      → ¬ (Succeeds end) → NamesReason name written report.entries end text
+  report-names : (slow : ℕ) (name written : List ℕ → List ℕ) (line : List EntryView → List ℕ) (last : List EntryView → RunEnd → List ℕ)
+      (inputs : List InputView) (text : List ℕ) (end : RunEnd) (report : IsReport slow line last inputs text end)
+      → NamesCauses name written (all_entries report.entries) end text
+      → ¬ (Succeeds end) → NamesReason name written (all_entries report.entries) end text
   report-names slow name written line last inputs text end report causes fails =
-      names-reason name written report.entries end text causes (reason-of slow line last inputs text end report fails)
+      names-reason name written (all_entries report.entries) end text causes (reason-of slow line last inputs text end report fails)
 
   pub text-names : TextNamesCauses → TextNamesReason
-  text-names causes slow o inputs text end report fails (inl shows) =
-      let says = subst (TextSays o report.entries end) (sym report.is) (causes o report.entries end) in
-      inl (says-reason (text_block o) (codes "outcome no-tests-run") report.entries end text (text-own o shows) says.causes
-      (λ none. subst (λ out. EndsWith text (codes "outcome " ++ outcome_word out)) none says.outcome)
-      (reason-of slow (text_line o) (text_last o) inputs text end report fails))
-  text-names causes slow o inputs text end report fails (inr lists) =
-      let says = subst (TextSays o report.entries end) (sym report.is) (causes o report.entries end) in
-      list-says o report.entries end text says lists.0 lists.1 (reason-of slow (text_line o) (text_last o) inputs text end report fails)
+  text-names causes slow o inputs text end report fails shown =
+      let entries = all_entries report.entries in
+      let says = subst (TextSays o entries end) (sym (report-text slow (text_line o) (text_last o) inputs text end report)) (causes o entries end) in
+      let found = reason-of slow (only_texts (text_line o)) (text_last o) inputs text end report fails in
+      let Says = SaysReason (text_block o) (codes "outcome no-tests-run") entries end text ⊎ HasCause (list_block o) entries text in
+      let fresh = none-cancelled slow inputs report.entries report.run report.are in
+      elim shown as (λ _. Says) [
+        | inl shows ↦ inl (lines-say o entries end text says (fresh-shown o entries fresh shows) found)
+        | inr lists ↦ list-says o entries end text says lists.0 lists.1 fresh found
+      ]
 
   pub github-names : GithubNamesCauses → GithubNamesReason
   github-names causes slow o inputs text end report fails =
       let files = one-run slow inputs report.entries report.run report.are in
-      let notes = of-notes (all_notes slow files.0) report.entries files.1.are in
-      let says = subst (GithubSays o report.entries end) (sym report.is) (causes o report.entries end notes) in
-      says-reason (github_block o) (notice end) report.entries end text (github-own o) says.causes (λ none. says.outcome)
-      (reason-of slow (github_line o) (λ entries end. github_last end) inputs text end report fails)
+      let notes = of-notes (all_notes slow files.0) (all_entries report.entries) files.1.are in
+      let says = subst (GithubSays o (all_entries report.entries) end)
+      (sym (report-text slow (github_line o) (λ entries end. github_last end) inputs text end report)) (causes o (all_entries report.entries) end notes) in
+      says-reason (github_block o) (notice end) (all_entries report.entries) end text (λ e is_one reason. github-own o e reason) says.causes
+      (λ none. says.outcome)
+      (reason-of slow (only_texts (github_line o)) (λ entries end. github_last end) inputs text end report fails)
 
   pub html-names : HtmlNamesCauses → HtmlNamesReason
   html-names causes slow o inputs text end report =
-      let is = report.is ∙ ap (λ x. x ++ html_of o report.entries end) (none-first report.entries) in
-      report-names slow (hole_text hole.Text) (hole_text hole.Text) (λ e. []) (html_of o) inputs text end report
-      (subst (NamesCauses (hole_text hole.Text) (hole_text hole.Text) report.entries end) (sym is) (causes o report.entries end))
+      let is = end-text slow (html_of o) inputs text end report in
+      report-names slow (hole_text hole.Text) (hole_text hole.Text) (only_texts nothing) (html_of o) inputs text end report
+      (subst (NamesCauses (hole_text hole.Text) (hole_text hole.Text) (all_entries report.entries) end) (sym is) (causes o (all_entries report.entries) end))
 
   pub junit-names : JunitNamesCauses → JunitNamesReason
   junit-names causes slow o inputs text end report fails to_pass =
-      let is = report.is ∙ ap (λ x. x ++ junit_of o report.entries end) (none-first report.entries) in
-      let own = causes o report.entries end in
-      has-case o report.entries end text own.0 (subst (λ x. IsXml x own.0) (sym is) own.1) own.2 to_pass
-      (reason-of slow nothing (junit_of o) inputs text end report fails)
+      let is = end-text slow (junit_of o) inputs text end report in
+      let own = causes o (all_entries report.entries) end in
+      has-case o (all_entries report.entries) end text own.0 (subst (λ x. IsXml x own.0) (sym is) own.1) own.2 to_pass
+      (reason-of slow (only_texts nothing) (junit_of o) inputs text end report fails)
 
   pub markdown-names : MarkdownNamesCauses → MarkdownNamesReason
   markdown-names causes slow o inputs text end report fails =
-      let is = report.is ∙ ap (λ x. x ++ markdown_of o report.entries end) (none-first report.entries) in
-      summary-reason o report.entries end text
-      (subst (SummaryNames (shown_tests (failures_of summary_limits o report.entries)) report.entries end) (sym is) (causes o report.entries end))
-      (reason-of slow nothing (markdown_of o) inputs text end report fails)
+      let is = end-text slow (markdown_of o) inputs text end report in
+      summary-reason o (all_entries report.entries) end text
+      (subst (SummaryNames (shown_tests (failures_of summary_limits o (all_entries report.entries))) (all_entries report.entries) end) (sym is)
+      (causes o (all_entries report.entries) end))
+      (reason-of slow (only_texts nothing) (markdown_of o) inputs text end report fails)
 
   pub files-name : JunitNamesCauses → HtmlNamesCauses → MarkdownNamesCauses → FilesNameReason
   files-name junit html markdown slow files inputs texts are fails =
@@ -465,13 +520,14 @@ module _ (has_reason : FailureHasReason) where
       let between-tags = hole_text hole.Text in
       let in-markdown = hole_text hole.Plain in
       let found = has_reason slow inputs are.entries are.run are.are fails in (
-        if-junit (λ f. HasReasonCase f.options are.entries end) (λ f. junit_last f are.entries end)
+        if-junit (λ f. HasReasonCase f.options (all_entries are.entries) end) (λ f. junit_last f (all_entries are.entries) end)
             (λ f. ¬ (RanNoTests end × IsTrue f.options.no_tests_pass)) files.junit (text_view texts.junit) are.say.junit
-            (λ f to_pass. let own = junit f.options are.entries end in has-case f.options are.entries end _ own.0 own.1 own.2 to_pass found),
-        if-there (NamesReason between-tags between-tags are.entries end) (λ (f : HtmlForm). html_last f are.entries end) files.html
+            (λ f to_pass. let own = junit f.options (all_entries are.entries) end in has-case f.options (all_entries are.entries) end _ own.0 own.1 own.2
+            to_pass found),
+        if-there (NamesReason between-tags between-tags (all_entries are.entries) end) (λ (f : HtmlForm). html_last f (all_entries are.entries) end) files.html
             (text_view texts.html) are.say.html
-            (λ f. names-reason between-tags between-tags are.entries end _ (html f.model.options are.entries end) found),
-        if-there (NamesReason in-markdown in-markdown are.entries end) (λ (f : MarkdownForm). markdown_last f are.entries end)
+            (λ f. names-reason between-tags between-tags (all_entries are.entries) end _ (html f.model.options (all_entries are.entries) end) found),
+        if-there (NamesReason in-markdown in-markdown (all_entries are.entries) end) (λ (f : MarkdownForm). markdown_last f (all_entries are.entries) end)
             files.markdown (text_view texts.markdown) are.say.markdown
-            (λ f. summary-reason f.model.options are.entries end _ (markdown f.model.options are.entries end) found),
+            (λ f. summary-reason f.model.options (all_entries are.entries) end _ (markdown f.model.options (all_entries are.entries) end) found),
       )

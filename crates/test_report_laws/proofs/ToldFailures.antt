@@ -22,7 +22,7 @@ use Rattle.test_report_run.specs.Over.{early_notes, explained_of}
 use Rattle.test_report_run.specs.Run.{RunState, Step, counts_tests, ended_at, ended_early, tests_in, open_suite, opened, running_ends, running_over, settled_at, started_again, step, stray_ends, stray_over, stray_suite_notes, stray_test, suite_at, suite_place}
 use Rattle.test_report_run.specs.Run as run
 use Rattle.test_report_run.specs.Running.{RunningView, attempts_of, ends_in_number, has_name, is_same, no_test, place_by_attempts, place_of_end, running_at, split_at, without_number}
-use Rattle.test_report_run.specs.Suite.{OverView, SuiteState, named, outside_start, suite_name, with_line}
+use Rattle.test_report_run.specs.Suite.{OverView, SuiteState, cancelled_by, named, outside_start, suite_name, with_line}
 use Rattle.test_report_laws.proofs.Types.{Explanation}
 
 abbrev pub told : List NoteView → ℕ
@@ -46,7 +46,7 @@ none-last s e tests = omega (
 none-again : (r : RunState) (key : Option (List ℕ)) (count : Option ℕ) (at : Option ℕ)
     → told (option_map_or (started_again r key count) at (step (opened r key count) [])).notes ≡ 0
 none-again r key count None = refl
-none-again r None count (Some at) = none-early r.others (suite_at r (Some at)) (tests_in r (suite_at r (Some at)))
+none-again r None count (Some at) = none-early r.others (cancelled_by r.cancel (suite_at r (Some at))) (tests_in r (suite_at r (Some at)))
 none-again r (Some key) count (Some at) = refl
 
 none-ended : (r : RunState) (e : SuiteEndView) (at : Option ℕ) → told (option_map_or (ended_at r e) at (step r (stray_suite_notes e))).notes ≡ 0
@@ -54,7 +54,7 @@ none-ended r e None = sum-if-none weight (counts_tests e) (Disagrees (StraySuite
 none-ended r e (Some at) =
     let s = with_line (suite_at r (Some at)) e in
     let tests = tests_in r s in
-    grind (arith, none-last s (explained_of s (length tests)) tests)
+    grind (arith, none-last (cancelled_by r.cancel s) (explained_of s (length tests)) tests)
 
 -- the end of a test tells of one failed test if it says that the test failed
 abbrev ends_as : TestEndView → TestResult → TestEndView
@@ -104,7 +104,9 @@ none-early-all : (t : Step) (suites : List SuiteState) → told t.notes ≡ 0 �
 none-early-all t [] h = h
 none-early-all t (s ∷ suites) h =
     let tests = tests_in t.run s in
-    none-early-all (ended_early t s) suites (omega (arith, h, sum_by-append weight t.notes (early_notes t.run.others s tests), none-early t.run.others s tests))
+    let own = cancelled_by t.run.cancel s in
+    none-early-all (ended_early t s) suites
+    (omega (arith, h, sum_by-append weight t.notes (early_notes t.run.others own tests), none-early t.run.others own tests))
 
 pub no-failure : NoFailureOfFileEnd
 no-failure r =
@@ -123,6 +125,7 @@ note_of s t e = record {
   time = t.time;
   ended = t.ended;
   slow = t.slow;
+  cancel = t.cancel;
   outcome = Fails (failure_of e);
 }
 

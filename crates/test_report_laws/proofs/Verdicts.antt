@@ -23,7 +23,7 @@ use Rattle.test_report_run.specs.Over.{early_notes, last_notes}
 use Rattle.test_report_run.specs.Running.{RunningView}
 use Rattle.test_report_run.specs.Run.{RunState, Step, after, after_file, ended_at, ended_early, file_notes, has_failed, heard, is_cause, learned, tests_in, notes_at, open_suite, opened, settled_at, started_again, step, stray_suite_notes, suite_at, with_suite_at, without_tests}
 use Rattle.test_report_run.specs.Said.{no_lines}
-use Rattle.test_report_run.specs.Suite.{SuiteState, failed_of, has_key, joined_by, outside_start, suite_start, with_line}
+use Rattle.test_report_run.specs.Suite.{SuiteState, cancelled_by, failed_of, has_key, joined_by, outside_start, suite_start, with_line}
 use Rattle.test_report_laws.specs.Whole.{all_notes}
 use Rattle.test_report_laws.proofs.Types.{Said}
 
@@ -82,7 +82,8 @@ seen-first n notes r (Some key) count (Some at) numbered i in' some =
 seen-first n notes r None count (Some at) numbered i in' some =
     let s = suite_at r (Some at) in
     let tests = tests_in r s in
-    omega (arith, early-cause r.others s tests (has-number r at numbered in'), sum_by-append weight notes (early_notes r.others s tests))
+    let own = cancelled_by r.cancel s in
+    omega (arith, early-cause r.others own tests (has-number r at numbered in'), sum_by-append weight notes (early_notes r.others own tests))
 
 -- a last line of a suite
 still-shown : (n known left rest more : ℕ) (old e : Bool) → (0 < n → 0 < known + left) → rest + cond old 1 0 ≡ left
@@ -110,7 +111,7 @@ seen-ready n notes r e i some = omega (
 seen-over : (n : ℕ) (notes : List NoteView) (r : RunState) (e : SuiteEndView) (at : ℕ) (over : Bool) → AreKnown notes r
     → weight_of unnumbered r ≡ 0 → Seen n notes r → at < length r.suites
     → let s = with_line (suite_at r (Some at)) e in
-    let t = if over then step (without_tests (record r { suites = remove r.suites at }) s) (last_notes s (tests_in r s))
+    let t = if over then step (without_tests (record r { suites = remove r.suites at }) s) (last_notes (cancelled_by r.cancel s) (tests_in r s))
     else step (with_suite_at r (Some at) s) [] in
     Seen (n + cond e.failed_verdict 1 0) (notes ++ t.notes) (learned t.run t.notes)
 seen-over n notes r e at true holds numbered i in' some =
@@ -119,12 +120,12 @@ seen-over n notes r e at true holds numbered i in' some =
     let tests = tests_in r s in
     let sound = All-get_or IsSound r.suites at r.outside in' holds.0 in
     let known : failed_of old.stats ≤ count_by is_cause notes = omega (arith, holds.1 at r.outside in', causes-of notes) in
-    let last = last-cause s tests (count_by is_cause notes) (has-number r at numbered in') record { retried = sound.retried; passed = sound.passed }
-    known in
+    let last = last-cause (cancelled_by r.cancel s) tests (count_by is_cause notes) (has-number r at numbered in')
+    record { retried = sound.retried; passed = sound.passed } known in
     omega (
       arith,
       still-shown n _ _ _ _ old.said.failed_verdict e.failed_verdict i (sum_by-remove (weigh failing) r.suites at r.outside in') last some,
-      sum_by-append weight notes (last_notes s tests),
+      sum_by-append weight notes (last_notes (cancelled_by r.cancel s) tests),
     )
 seen-over n notes r e at false holds numbered i in' some =
     let s = with_line (suite_at r (Some at)) e in
@@ -177,8 +178,8 @@ early-causes t (s ∷ suites) none =
     let parts = sum_by-cons (weigh unnumbered) s suites in
     omega (
       arith,
-      early-cause t.run.others s tests (λ zero. absurd (omega (arith, ap (λ n. unnumbered n no_lines None) zero))),
-      sum_by-append weight t.notes (early_notes t.run.others s tests),
+      early-cause t.run.others (cancelled_by t.run.cancel s) tests (λ zero. absurd (omega (arith, ap (λ n. unnumbered n no_lines None) zero))),
+      sum_by-append weight t.notes (early_notes t.run.others (cancelled_by t.run.cancel s) tests),
       early-causes (ended_early t s) suites (omega arith),
     )
 
@@ -188,7 +189,8 @@ end-causes r numbered =
     let now = reported_run r in
     let none = step (record now { suites = [] }) [] in
     let ended = fold ended_early none now.suites in
-    let last = early_notes ended.run.others now.outside (tests_in (record (ended.run) { outside = outside_start }) now.outside) in
+    let tests = tests_in (record (ended.run) { outside = outside_start }) now.outside in
+    let last = early_notes ended.run.others (cancelled_by ended.run.cancel now.outside) tests in
     omega (
       arith,
       early-causes none now.suites (numbered-reported r numbered),
@@ -203,11 +205,11 @@ outside-cause r some =
     let now = reported_run r in
     let ended = fold ended_early (step (record now { suites = [] }) []) now.suites in
     let tests = tests_in (record (ended.run) { outside = outside_start }) now.outside in
-    let last = early_notes ended.run.others now.outside tests in
+    let last = early_notes ended.run.others (cancelled_by ended.run.cancel now.outside) tests in
     let started : 0 < now.outside.started = subst (λ (x : RunState). 0 < x.outside.started) (sym (only-told r).run_is) some in
     omega (
       arith,
-      early-shows ended.run.others now.outside tests (λ zero. started),
+      early-shows ended.run.others (cancelled_by ended.run.cancel now.outside) tests (λ zero. started),
       causes-of last,
       crashes-fail last,
       sum_by-append weight ended.notes last,

@@ -4,7 +4,7 @@ use Rattle.std.specs.List.{position, remove, sum_by}
 use Rattle.std.specs.Option.{option_map_or}
 use Rattle.std.specs.Prelude.{◌==◌, if◌then◌else◌, is_none}
 use Rattle.std.proofs.lemmas.List.Sums.{get_or-le-sum_by, sum_by-remove, sum_by-set, sum_by_push}
-use Rattle.test_report_events.specs.Event.{EventView, SuiteEndView, TestEndView, SuiteStarts, SuiteEnds, TestStarts, TestEnds, TestIsSlow, OtherLine, HeadingLine, CargoFails, Prints, DamagedLine, CommandStarts, CommandOver}
+use Rattle.test_report_events.specs.Event.{EventView, SuiteEndView, TestEndView, SuiteStarts, SuiteEnds, TestStarts, TestEnds, TestIsSlow, OtherLine, HeadingLine, CargoFails, Prints, DamagedLine, CommandStarts, Cancels, CommandOver}
 use Rattle.test_report_events.specs.declared.event.TestResult.{TestResult}
 use Rattle.test_report_events.specs.declared.event.TestResult.TheVariants.{Ok, Failed, Ignored}
 use Rattle.test_report_laws.proofs.Books.{IsIn, ends-keep, place-in, position-in}
@@ -16,7 +16,7 @@ use Rattle.test_report_run.specs.Over.{last_notes}
 use Rattle.test_report_run.specs.Run.{RunState, after, after_file, ended_at, heard, heard_at, tests_in, open_suite, opened, place_of_number, run_start, running_ends, running_over, slow_at, started_again, step, stray_ends, stray_over, stray_suite_notes, suite_at, suite_place, told, with_suite_at, without_tests}
 use Rattle.test_report_run.specs.Running.{RunningView, is_same, place_of_end, running_at, with_slow}
 use Rattle.test_report_run.specs.Said.{no_lines}
-use Rattle.test_report_run.specs.Suite.{OverView, SuiteState, has_key, joined_by, named, suite_start, with_line, with_start}
+use Rattle.test_report_run.specs.Suite.{OverView, SuiteState, cancelled_by, has_key, joined_by, named, suite_start, with_line, with_start}
 use Rattle.test_report_laws.specs.Whole.{run_after, run_after_files}
 use Rattle.test_report_laws.proofs.Types.{Said}
 
@@ -87,7 +87,8 @@ is_of_suite (HeadingLine name path) = false
 is_of_suite (CargoFails f line plain) = false
 is_of_suite (Prints line plain) = false
 is_of_suite (DamagedLine text) = false
-is_of_suite CommandStarts = false
+is_of_suite (CommandStarts names) = false
+is_of_suite (Cancels why) = false
 is_of_suite (CommandOver end) = false
 
 -- failures of cargo that become known change no suite
@@ -107,7 +108,8 @@ keeps-told r (HeadingLine name path) other = λ g. refl
 keeps-told r (CargoFails f line plain) other = λ g. ap (weight_of g) (only-cargo r f plain).run_is
 keeps-told r (Prints line plain) other = λ g. refl
 keeps-told r (DamagedLine text) other = λ g. refl
-keeps-told r CommandStarts other = λ g. refl
+keeps-told r (CommandStarts names) other = λ g. refl
+keeps-told r (Cancels why) other = λ g. refl
 keeps-told r (CommandOver end) other = λ g. refl
 
 -- what a line leaves of the suites, its own notes leave
@@ -148,7 +150,7 @@ numbered-first r None count (Some at) in' none =
 -- and after a last line
 numbered-over : (r : RunState) (e : SuiteEndView) (at : ℕ) (over : Bool) → at < length r.suites → weight_of unnumbered r ≡ 0
     → let s = with_line (suite_at r (Some at)) e in
-    weight_of unnumbered (if over then step (without_tests (record r { suites = remove r.suites at }) s) (last_notes s (tests_in r s))
+    weight_of unnumbered (if over then step (without_tests (record r { suites = remove r.suites at }) s) (last_notes (cancelled_by r.cancel s) (tests_in r s))
     else step (with_suite_at r (Some at) s) []).run ≡ 0
 numbered-over r e at true in' none = omega (arith, none, sum_by-remove (weigh unnumbered) r.suites at r.outside in')
 numbered-over r e at false in' none =

@@ -1,8 +1,9 @@
 -- The commands of CI systems in a log: those that the form for GitHub writes, and those that no other form has.
 use Rattle.std.specs.Prelude.{◌≡◌, ◌==◌, ◌||◌, ◌++◌, ℕ, Bool, false, List, [], ◌∷◌, codes, nat_eq}
-use Rattle.std.specs.List.{All, Contains, flat_map, join_with_byte, slice_split, starts_with}
+use Rattle.std.specs.List.{All, AllZip, Contains, flat_map, join_with_byte, slice_split, starts_with}
 use Rattle.std.specs.Str.{NoCharPasses, chars, skip_leading_whitespace}
 use Rattle.template.specs.Shows.{HasPart}
+use Rattle.test_report_engine.specs.Report.{all_entries}
 use Rattle.test_report_forms.specs.Entry.{EntryView, IsEntryOf}
 use Rattle.test_report_forms.specs.Github.{github_last, github_line}
 use Rattle.test_report_forms.specs.Names.{names_line}
@@ -80,19 +81,29 @@ TextHasNoCommands = (o : Options) (entries : List EntryView) (end : RunEnd) → 
 abbrev pub AreCommands : List ℕ → Type 0
 AreCommands text = (commands : List (List ℕ)) × All IsCommand commands × (slice_split is_line_end text ≡ commands ++ [] ∷ [])
 
--- the text of an entry for people, and its command behind it, if it has one
-abbrev pub annotated_line : Options → Options → EntryView → List ℕ
-annotated_line o a e = text_line o e ++ github_line a e
+-- the texts for people of the entries of a line of the input, and after them the commands of these entries
+abbrev pub annotated_line : Options → Options → List EntryView → List ℕ
+annotated_line o a line = flat_map (text_line o) line ++ flat_map (github_line a) line
 
--- the text with commands for a list of entries and the end
-abbrev pub annotated_of_run : Options → Options → List EntryView → RunEnd → List ℕ
-annotated_of_run o a entries end = flat_map (annotated_line o a) entries ++ (text_last o entries end ++ github_last end)
+-- the text with commands for the entries of lines and the end
+abbrev pub annotated_of_run : Options → Options → List (List EntryView) → RunEnd → List ℕ
+annotated_of_run o a entries end = flat_map (annotated_line o a) entries ++ (text_last o (all_entries entries) end ++ github_last end)
 
--- If `raw` is false, the form for people with annotations writes parts: each is a text without commands, and whole commands behind it, if there are any.
+-- these are the entries of notes
+abbrev pub AreOfNotes : List EntryView → Type 0
+AreOfNotes entries = All (λ e. (n : NoteView) × IsEntryOf n e) entries
+
+-- a text without commands, and whole commands after it, if there are any
+abbrev pub IsPart : List ℕ × List ℕ → Type 0
+IsPart p = HasNoCommands p.0 × AreCommands p.1
+
+-- If `raw` is false, the form for people with annotations writes parts: one of each line of the input, and one of the end. Each is a text without commands,
+-- and whole commands after it, if there are any.
 abbrev pub AnnotatedHasOwnCommands : Type 0
-AnnotatedHasOwnCommands = (o a : Options) (entries : List EntryView) (end : RunEnd) → o.raw ≡ false → All (λ e. (n : NoteView) × IsEntryOf n e) entries
-    → (parts : List (List ℕ × List ℕ)) × All (λ p. HasNoCommands p.0 × AreCommands p.1) parts
-    × (annotated_of_run o a entries end ≡ flat_map (λ p. p.0 ++ p.1) parts)
+AnnotatedHasOwnCommands = (o a : Options) (entries : List (List EntryView)) (end : RunEnd) → o.raw ≡ false → All AreOfNotes entries
+    → (parts : List (List ℕ × List ℕ)) × (last : List ℕ × List ℕ) × All IsPart (parts ++ last ∷ [])
+    × AllZip (λ line p. annotated_line o a line ≡ p.0 ++ p.1) entries parts
+    × (annotated_of_run o a entries end ≡ flat_map (λ p. p.0 ++ p.1) (parts ++ last ∷ []))
 
 -- What the form of names writes has no command.
 abbrev pub NamesHasNoCommands : Type 0

@@ -29,7 +29,7 @@ use Rattle.test_report_forms.specs.WholeOutput.{page_limits, summary_limits}
 use Rattle.test_report_forms.specs.Words.{outcome_word, run_numbers}
 use Rattle.test_report_forms.specs.declared.options.Options.{Options}
 use Rattle.test_report_engine.specs.Progress.{progress_text}
-use Rattle.test_report_laws.specs.Commands.{annotated_of_run}
+use Rattle.test_report_laws.specs.Commands.{AreOfNotes, annotated_of_run}
 use Rattle.test_report_run.specs.Note.{NoteView}
 use Rattle.test_report_run.specs.Run.{RunState}
 use Rattle.test_report_run.specs.declared.note.RunEnd.{RunEnd}
@@ -57,8 +57,8 @@ TextHasNoControls = (o : Options) (entries : List EntryView) (end : RunEnd) → 
 
 -- What the form for people with annotations writes of the entries of notes and at the end has no control characters, if `raw` and `color` are false.
 abbrev pub AnnotatedHasNoControls : Type 0
-AnnotatedHasNoControls = (o a : Options) (entries : List EntryView) (end : RunEnd) → o.raw ≡ false → o.color ≡ false
-    → All (λ e. (n : NoteView) × IsEntryOf n e) entries → HasNoControls (annotated_of_run o a entries end)
+AnnotatedHasNoControls = (o a : Options) (entries : List (List EntryView)) (end : RunEnd) → o.raw ≡ false → o.color ≡ false
+    → All AreOfNotes entries → HasNoControls (annotated_of_run o a entries end)
 
 -- What the form of names writes of an entry is nothing or one line.
 abbrev pub NamesAreLines : Type 0

@@ -1,3 +1,4 @@
+pub mod Cancellation
 pub mod Colours
 pub mod Commands
 pub mod Forms

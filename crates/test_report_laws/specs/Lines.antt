@@ -86,7 +86,7 @@ ended_words o word t note = status_text o.color word ++ (codes " " ++ (bracket t
 -- a line with the status, the time and the name of a test that passed, and under it its output
 abbrev pub passed_block : Options → TestNoteView → Option Block
 passed_block o t =
-    ended_block (shown_if (has_output t.outcome) (finished_output o Passed t.attempts t.slow)) (ended_words o (passed_word t.attempts) t [])
+    ended_block (shown_if (has_output t.outcome) (finished_output o Passed t.attempts t.slow t.cancel)) (ended_words o (passed_word t.attempts) t [])
     (output_lines 4 o t.outcome)
 
 -- the form for people: a line with the status, the time, the name and the attempts of a failed test, and under it why it failed; a line with the
@@ -94,11 +94,11 @@ passed_block o t =
 -- the cause. A flaky test has its line when it passed, and no other one when it counts as passed
 abbrev pub text_block : Options → EntryView → Option Block
 text_block o (TestFailed t f w) =
-    ended_block (finished_output o (finish_for f.kind) t.attempts t.slow) (ended_words o (failed_word f.kind) t (attempts_note t.attempts))
+    ended_block (finished_output o (finish_for f.kind) t.attempts t.slow t.cancel) (ended_words o (failed_word f.kind) t (attempts_note t.attempts))
     (why_lines 4 o (text_why o t f w))
 text_block o (TestPassed t) = if nat_lt 1 t.attempts then None else passed_block o t
 text_block o (FlakyPassed t) = passed_block o t
-text_block o (TestSkipped t) = ended_block (skipped_output o) (ended_words o (codes "SKIP") t []) []
+text_block o (TestSkipped t) = ended_block (skipped_output o t.cancel) (ended_words o (codes "SKIP") t []) []
 text_block o (LinesDisagree d why) =
     Some (record { line = disagreement_line d; below = option_map_or (indented 4 o.raw) why [] ++ advice (lacks_events d) })
 text_block o (SuiteNotRun suite n of) = Some (record { line = not_run_line suite n of; below = [] })
@@ -113,7 +113,7 @@ listed_block (store.Yes output) line below = Some (record { line = line; below =
 -- failed
 abbrev pub list_block : Options → EntryView → Option Block
 list_block o (TestFailed t f w) =
-    listed_block (finished_output o (finish_for f.kind) t.attempts t.slow).store_final
+    listed_block (finished_output o (finish_for f.kind) t.attempts t.slow t.cancel).store_final
     (list_line o (failed_word f.kind) t ++ (codes ": " ++ shown_text o.raw (front w.short o.limit))) (why_lines 13 o (text_why o t f w))
 list_block o _ = None
 

@@ -1,5 +1,5 @@
 -- Laws of reports.
-use Rattle.std.specs.Prelude.{◌≡◌, ◌<◌, ◌||◌, ◌⊎◌, nat_le, [], ℕ, All, Bool, Contains, IfSome, IsTrue, List, Some, codes}
+use Rattle.std.specs.Prelude.{◌≡◌, ◌<◌, ◌++◌, ◌||◌, ◌⊎◌, nat_le, [], ℕ, All, Bool, Contains, IfSome, IsTrue, List, Some, codes}
 use Rattle.std.specs.List.{AllZip, flat_map}
 use Rattle.template.specs.Hole.{hole_text}
 use Rattle.template.specs.Shows.{HasPart}
@@ -30,11 +30,11 @@ use Rattle.test_report_laws.specs.Status.{IsInOrder, RanNoTests, Succeeds}
 use Rattle.test_report_laws.specs.Whole.{all_notes, whole_end}
 use Rattle.test_report_run.specs.declared.note.RunEnd.{RunEnd}
 use Rattle.test_report_engine.specs.Lines.{AreEventsOf, InputView}
-use Rattle.test_report_engine.specs.Report.{AreEntriesOf, AreTexts, IsReport}
+use Rattle.test_report_engine.specs.Report.{AreEntriesOf, AreTexts, IsReport, all_entries}
 
 -- Inputs have at most one report in a form, and one end of the run.
 abbrev pub OneReport : Type 0
-OneReport = (slow : ℕ) → (line : EntryView → List ℕ) → (last : List EntryView → RunEnd → List ℕ) → (inputs : List InputView)
+OneReport = (slow : ℕ) → (line : List EntryView → List ℕ) → (last : List EntryView → RunEnd → List ℕ) → (inputs : List InputView)
     → (a : List ℕ) → (b : List ℕ) → (d : RunEnd) → (e : RunEnd)
     → IsReport slow line last inputs a d → IsReport slow line last inputs b e → (a ≡ b) × (d ≡ e)
 
@@ -54,8 +54,8 @@ pub record AreFilesOf (slow : ℕ) (inputs : List InputView) (entries : List Ent
 
 -- The entries and the end of a report are those of files to which these laws apply.
 abbrev pub OneRun : Type 0
-OneRun = (slow : ℕ) → (inputs : List InputView) → (entries : List EntryView) → (run : RunState) → AreEntriesOf slow inputs entries run
-    → (files : List (List EventView)) × AreFilesOf slow inputs entries (end_of run) files
+OneRun = (slow : ℕ) → (inputs : List InputView) → (entries : List (List EntryView)) → (run : RunState) → AreEntriesOf slow inputs entries run
+    → (files : List (List EventView)) × AreFilesOf slow inputs (all_entries entries) (end_of run) files
 
 -- What the outcomes `Success` and `NoTestsRun` mean.
 
@@ -66,8 +66,8 @@ HasEndedWell input = IfSome input.command (λ end. end ≡ WithStatus 0)
 -- If the outcome in a report is `Success`, a test passed, each command ended with status 0, and nothing is wrong with the lines of the inputs. If it is
 -- `NoTestsRun`, no test passed, and nothing is wrong either.
 abbrev pub SuccessMeans : Type 0
-SuccessMeans = (slow : ℕ) → (inputs : List InputView) → (entries : List EntryView) → (run : RunState) → AreEntriesOf slow inputs entries run
-    → (files : List (List EventView)) × AreFilesOf slow inputs entries (end_of run) files
+SuccessMeans = (slow : ℕ) → (inputs : List InputView) → (entries : List (List EntryView)) → (run : RunState) → AreEntriesOf slow inputs entries run
+    → (files : List (List EventView)) × AreFilesOf slow inputs (all_entries entries) (end_of run) files
     × (Succeeds (end_of run) → (0 < passed_in (all_notes slow files)) × All HasEndedWell inputs × IsInOrder slow files)
     × (RanNoTests (end_of run) → (passed_in (all_notes slow files) ≡ 0) × All HasEndedWell inputs × IsInOrder slow files)
 
@@ -75,9 +75,13 @@ SuccessMeans = (slow : ℕ) → (inputs : List InputView) → (entries : List En
 
 -- If the outcome in a report is not `Success`, an entry says why, or no test ran.
 abbrev pub FailureHasReason : Type 0
-FailureHasReason = (slow : ℕ) → (inputs : List InputView) → (entries : List EntryView) → (run : RunState) → AreEntriesOf slow inputs entries run
+FailureHasReason = (slow : ℕ) → (inputs : List InputView) → (entries : List (List EntryView)) → (run : RunState) → AreEntriesOf slow inputs entries run
     → ¬ (Succeeds (end_of run))
-    → ((e : EntryView) × Contains entries e × IsTrue (is_reason e)) ⊎ RanNoTests (end_of run)
+    → ((e : EntryView) × Contains (all_entries entries) e × IsTrue (is_reason e)) ⊎ RanNoTests (end_of run)
+
+-- what a form writes of the entries of a line if it writes the text of each, and nothing after these texts
+abbrev pub only_texts : (EntryView → List ℕ) → List EntryView → List ℕ
+only_texts line entries = flat_map line entries ++ flat_map (λ entry. []) entries
 
 -- a text has the name of a failed test. Names are written by this function
 pub record NamesTest (name : List ℕ → List ℕ) (entries : List EntryView) (text : List ℕ) : Type 0 where
@@ -119,14 +123,16 @@ ShowsFailures o entries = IsTrue (shows_failures o) ⊎ (IsTrue (lists_failures 
 -- The report for people of a run that does not succeed names a reason in whole lines, if its levels and displays show or list failed tests.
 abbrev pub TextNamesReason : Type 0
 TextNamesReason = (slow : ℕ) → (o : Options) → (inputs : List InputView) → (text : List ℕ) → (end : RunEnd)
-    → (report : IsReport slow (text_line o) (text_last o) inputs text end) → ¬ (Succeeds end) → ShowsFailures o report.entries
-    → SaysReason (text_block o) (codes "outcome no-tests-run") report.entries end text ⊎ HasCause (list_block o) report.entries text
+    → (report : IsReport slow (only_texts (text_line o)) (text_last o) inputs text end) → ¬ (Succeeds end)
+    → ShowsFailures o (all_entries report.entries)
+    → SaysReason (text_block o) (codes "outcome no-tests-run") (all_entries report.entries) end text
+    ⊎ HasCause (list_block o) (all_entries report.entries) text
 
 -- The report for GitHub of such a run names a reason.
 abbrev pub GithubNamesReason : Type 0
 GithubNamesReason = (slow : ℕ) → (o : Options) → (inputs : List InputView) → (text : List ℕ) → (end : RunEnd)
-    → (report : IsReport slow (github_line o) (λ entries end. github_last end) inputs text end) → ¬ (Succeeds end)
-    → SaysReason (github_block o) (notice end) report.entries end text
+    → (report : IsReport slow (only_texts (github_line o)) (λ entries end. github_last end) inputs text end) → ¬ (Succeeds end)
+    → SaysReason (github_block o) (notice end) (all_entries report.entries) end text
 
 -- JUnit's XML reads back as a tree that has the test case of a reason why a run does not succeed: the cause of an entry, or that no test ran
 pub record HasReasonCase (o : Options) (entries : List EntryView) (end : RunEnd) (text : List ℕ) : Type 0 where
@@ -139,26 +145,26 @@ pub record HasReasonCase (o : Options) (entries : List EntryView) (end : RunEnd)
 -- JUnit's XML of such a run has the test case of a reason, unless no test ran and a run without tests is to pass.
 abbrev pub JunitNamesReason : Type 0
 JunitNamesReason = (slow : ℕ) → (o : Options) → (inputs : List InputView) → (text : List ℕ) → (end : RunEnd)
-    → (report : IsReport slow (λ entry. []) (junit_of o) inputs text end)
-    → ¬ (Succeeds end) → ¬ (RanNoTests end × IsTrue o.no_tests_pass) → HasReasonCase o report.entries end text
+    → (report : IsReport slow (only_texts (λ entry. [])) (junit_of o) inputs text end)
+    → ¬ (Succeeds end) → ¬ (RanNoTests end × IsTrue o.no_tests_pass) → HasReasonCase o (all_entries report.entries) end text
 
 -- The page of such a run names a reason.
 abbrev pub HtmlNamesReason : Type 0
 HtmlNamesReason = (slow : ℕ) → (o : Options) → (inputs : List InputView) → (text : List ℕ) → (end : RunEnd)
-    → (report : IsReport slow (λ entry. []) (html_of o) inputs text end) → ¬ (Succeeds end)
-    → NamesReason (hole_text hole.Text) (hole_text hole.Text) report.entries end text
+    → (report : IsReport slow (only_texts (λ entry. [])) (html_of o) inputs text end) → ¬ (Succeeds end)
+    → NamesReason (hole_text hole.Text) (hole_text hole.Text) (all_entries report.entries) end text
 
 -- The summary of such a run names a reason.
 abbrev pub MarkdownNamesReason : Type 0
 MarkdownNamesReason = (slow : ℕ) → (o : Options) → (inputs : List InputView) → (text : List ℕ) → (end : RunEnd)
-    → (report : IsReport slow (λ entry. []) (markdown_of o) inputs text end) → ¬ (Succeeds end)
-    → NamesReason (hole_text hole.Plain) (hole_text hole.Plain) report.entries end text
+    → (report : IsReport slow (only_texts (λ entry. [])) (markdown_of o) inputs text end) → ¬ (Succeeds end)
+    → NamesReason (hole_text hole.Plain) (hole_text hole.Plain) (all_entries report.entries) end text
 
 -- The texts of the files name a reason, too.
 abbrev pub FilesNameReason : Type 0
 FilesNameReason = (slow : ℕ) → (files : FileForms) → (inputs : List InputView) → (texts : FileTexts) → (are : AreTexts slow files inputs texts)
     → ¬ (Succeeds (end_of are.run))
     → IfSome files.junit (λ form. ¬ (RanNoTests (end_of are.run) × IsTrue form.options.no_tests_pass)
-    → IfSome (text_view texts.junit) (HasReasonCase form.options are.entries (end_of are.run)))
-    × IfSome (text_view texts.html) (NamesReason (hole_text hole.Text) (hole_text hole.Text) are.entries (end_of are.run))
-    × IfSome (text_view texts.markdown) (NamesReason (hole_text hole.Plain) (hole_text hole.Plain) are.entries (end_of are.run))
+    → IfSome (text_view texts.junit) (HasReasonCase form.options (all_entries are.entries) (end_of are.run)))
+    × IfSome (text_view texts.html) (NamesReason (hole_text hole.Text) (hole_text hole.Text) (all_entries are.entries) (end_of are.run))
+    × IfSome (text_view texts.markdown) (NamesReason (hole_text hole.Plain) (hole_text hole.Plain) (all_entries are.entries) (end_of are.run))

@@ -3,7 +3,7 @@ use Rattle.std.specs.Prelude.{◌++◌, ◌≡◌, ◌≢◌, All, IfSome, None,
 use Rattle.std.specs.List.{count_by, sum_by}
 use Rattle.run_events_stats.specs.declared.outcome.run_outcome.RunOutcome.{RunOutcome}
 use Rattle.run_events_stats.specs.declared.outcome.run_outcome.RunOutcome.TheVariants as outcome
-use Rattle.test_report_events.specs.Event.{EventView, SuiteEndView, TestEndView, SuiteStarts, SuiteEnds, TestStarts, TestEnds, TestIsSlow, OtherLine, HeadingLine, CargoFails, Prints, DamagedLine, CommandStarts, CommandOver, CommandView, WithStatus}
+use Rattle.test_report_events.specs.Event.{EventView, SuiteEndView, TestEndView, SuiteStarts, SuiteEnds, TestStarts, TestEnds, TestIsSlow, OtherLine, HeadingLine, CargoFails, Prints, DamagedLine, CommandStarts, Cancels, CommandOver, CommandView, WithStatus}
 use Rattle.test_report_events.specs.declared.event.CargoFailure.{CargoFailure}
 use Rattle.test_report_events.specs.declared.event.TestResult.{TestResult}
 use Rattle.test_report_events.specs.declared.event.TestResult.TheVariants.{Ok, Failed, Ignored}
@@ -40,7 +40,8 @@ says_failed (HeadingLine name path) = false
 says_failed (CargoFails f line plain) = false
 says_failed (Prints line plain) = false
 says_failed (DamagedLine text) = false
-says_failed CommandStarts = false
+says_failed (CommandStarts names) = false
+says_failed (Cancels why) = false
 says_failed (CommandOver end) = false
 
 -- a failure of this kind has a line that says so
@@ -330,7 +331,8 @@ says_failed_verdict (HeadingLine name path) = false
 says_failed_verdict (CargoFails f line plain) = false
 says_failed_verdict (Prints line plain) = false
 says_failed_verdict (DamagedLine text) = false
-says_failed_verdict CommandStarts = false
+says_failed_verdict (CommandStarts names) = false
+says_failed_verdict (Cancels why) = false
 says_failed_verdict (CommandOver end) = false
 
 -- how many last lines of suites in a file have a failed verdict
@@ -358,7 +360,8 @@ is_damaged OtherLine = false
 is_damaged (HeadingLine name path) = false
 is_damaged (CargoFails f line plain) = false
 is_damaged (Prints line plain) = false
-is_damaged CommandStarts = false
+is_damaged (CommandStarts names) = false
+is_damaged (Cancels why) = false
 is_damaged (CommandOver end) = false
 
 -- how many lines of a file are damaged, and say that a test or a suite failed

@@ -3,7 +3,7 @@ use Rattle.std.specs.Prelude.{◌+◌, [], ◌≡◌, ◌≢◌, ◌≤◌, ◌<
 use Rattle.std.specs.List.{sum_by}
 use Rattle.std.specs.Option.{option_map_or}
 use Rattle.run_events_stats.specs.declared.outcome.run_outcome.RunOutcome.TheVariants as outcome
-use Rattle.test_report_events.specs.Event.{EventView, SuiteEndView, SuiteStarts, SuiteEnds, TestStarts, TestEnds, TestIsSlow, OtherLine, HeadingLine, CargoFails, Prints, DamagedLine, CommandStarts, CommandOver, WithStatus}
+use Rattle.test_report_events.specs.Event.{EventView, SuiteEndView, SuiteStarts, SuiteEnds, TestStarts, TestEnds, TestIsSlow, OtherLine, HeadingLine, CargoFails, Prints, DamagedLine, CommandStarts, Cancels, CommandOver, WithStatus}
 use Rattle.test_report_events.specs.declared.event.CargoFailure.{CargoFailure}
 use Rattle.test_report_laws.specs.Run.{Agrees, IsClean, damaged_lines_of, events_in, failed_lines_of, failed_verdicts_of, not_run_in, passed_in, skipped_in}
 use Rattle.test_report_run.specs.Running.{RunningView}
@@ -11,7 +11,7 @@ use Rattle.test_report_run.specs.Note.{Disagrees, FlakyEnds, IsNotRun, NoteView,
 use Rattle.test_report_run.specs.Over.{last_notes}
 use Rattle.test_report_run.specs.Run.{RunState, counts_tests, is_cause, tests_in, open_suite, suite_at}
 use Rattle.test_report_run.specs.Said.{numbers_of}
-use Rattle.test_report_run.specs.Suite.{SuiteState, with_line}
+use Rattle.test_report_run.specs.Suite.{SuiteState, cancelled_by, with_line}
 use Rattle.test_report_laws.specs.Whole.{IsFileEndOf, IsLineOf, all_notes, run_at_end, whole_end}
 use Rattle.test_report_run.specs.declared.note.RunEnd.{RunEnd}
 
@@ -69,7 +69,8 @@ announced_by (HeadingLine name path) = 0
 announced_by (CargoFails f line plain) = 0
 announced_by (Prints line plain) = 0
 announced_by (DamagedLine text) = 0
-announced_by CommandStarts = 0
+announced_by (CommandStarts names) = 0
+announced_by (Cancels why) = 0
 announced_by (CommandOver end) = 0
 
 -- how many tests the first lines of suites announce in all files
@@ -102,7 +103,7 @@ pub record IsInOrder (slow : ℕ) (files : List (List EventView)) : Type 0 where
   pub events : (r : RunState) → (end : IsFileEndOf slow files r) → r.command ≡ None → 0 < events_in end.file
   -- each last line that ends a suite says what the tests of the suite are
   pub last_lines : (r : RunState) → (e : SuiteEndView) → (at : ℕ) → IsLineOf slow files r (SuiteEnds e) → open_suite r e.key ≡ Some at
-      → let s = with_line (suite_at r (Some at)) e in s.open_lines ≡ 0 → EndsInOrder s (tests_in r s)
+      → let s = cancelled_by r.cancel (with_line (suite_at r (Some at)) e) in s.open_lines ≡ 0 → EndsInOrder s (tests_in r s)
   -- a last line while its suite is not open counts no test that ran
   pub stray_lines : (r : RunState) → (e : SuiteEndView) → IsLineOf slow files r (SuiteEnds e) → open_suite r e.key ≡ None → counts_tests e ≡ false
   -- each suite ends by its last line: none is open when another one without key starts in its place, or at the end of a file

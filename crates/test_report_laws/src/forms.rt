@@ -1,5 +1,6 @@
 //! Laws of what the forms write.
 
+ghost use Rattle.test_report_laws.specs.Cancellation.{CancelledListsNoMore, CancelledShowsNoMore};
 ghost use Rattle.test_report_laws.specs.Colours.{TextIsColoured};
 ghost use Rattle.test_report_laws.specs.Commands.{AnnotatedHasOwnCommands, NamesHasNoCommands, OnlyCommands, TextHasNoCommands};
 ghost use Rattle.test_report_laws.specs.Forms.{AnnotatedHasNoControls, GithubHasNoControls, HtmlHasNoControls, HtmlNamesCauses, HtmlReadsBack, HtmlSaysEnd, HtmlShowsItems, HtmlShowsPhrases, HtmlShowsValues, MarkdownHasNoControls, MarkdownKeepsMarks, MarkdownNamesCauses, MarkdownSaysEnd, MarkdownSaysMore, MarkdownShowsPhrases, MarkdownShowsTests, MarkdownShowsValues, NamesAreLines, ProgressIsPlain, TextHasNoControls};
@@ -11,8 +12,9 @@ ghost use Rattle.test_report_laws.specs.Lines.{GithubNamesCauses, NamesNamesTest
 /// notice: `::`, the name of the command, properties or none, `::` and a message. The value of a property has no
 /// comma, no colon and no end of a line. A carriage return ends a line, too.
 ///
-/// `AnnotatedForm` without `raw` writes parts. Each part is a text without commands (as for `no_commands`), and behind it
-/// whole commands, if there are any.
+/// `AnnotatedForm` without `raw` writes parts: one of each line of the input, and one of the end. Each part is a text
+/// without commands (as for `no_commands`), and after it whole commands, if there are any. The part of a line has the
+/// texts of all entries that the line makes known, and then their commands.
 pub fn only_commands()
     ensures github { OnlyCommands }
     ensures annotated { AnnotatedHasOwnCommands }
@@ -23,6 +25,14 @@ pub fn only_commands()
 pub fn no_commands()
     ensures text { TextHasNoCommands }
     ensures names { NamesHasNoCommands }
+{}
+
+/// What `text` writes of a test for a more severe cancel reason is the start of what it writes of the same test for a
+/// less severe one, or for a run that is not cancelled. The same holds for what the list at the end has of the test.
+/// The exception of the layer, a test that the runner ended, never applies: no line of a run says so of a test.
+pub fn cancelled_shows_no_more()
+    ensures text { CancelledShowsNoMore }
+    ensures list { CancelledListsNoMore }
 {}
 
 /// Whatever the input has, no form but `json` writes control characters, except tabs and line feeds, or characters

@@ -14,7 +14,7 @@ pub if_known : {P Q : List ℕ → Type 0} → (known : Option (List ℕ)) → (
 if_known None f p = tt
 if_known (Some bytes) f p = f bytes p
 
-module _ {F : Type 0} (line : F → EntryView → List ℕ) (last : F → List EntryView → RunEnd → List ℕ) (Knows : F → List EntryView → Type 0) where
+module _ {F : Type 0} (line : F → List EntryView → List ℕ) (last : F → List EntryView → RunEnd → List ℕ) (Knows : F → List EntryView → Type 0) where
   -- the report of one input was written
   abbrev pub IsWritten : ℕ → F → InputView → RunEnd → Option (List ℕ) → Option (List ℕ) → Type 0
   IsWritten slow form input end before behind = (text : List ℕ) × IsReport slow (line form) (last form) (input ∷ []) text end × Appends before behind text

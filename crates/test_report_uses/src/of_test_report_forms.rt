@@ -20,6 +20,6 @@ pub fn text_of_note(alloc: Global, note: &Note, options: Options) -> Result<Stri
     let entry = Entry::of(alloc, note)?;
     let mut form = TextForm::new(alloc, options);
     let mut text = String::new(alloc);
-    form.on_entry(alloc, &entry, &mut text)?;
+    form.on_entry(alloc, &entry, &mut text, &mut String::new(alloc))?;
     Ok(text)
 }

@@ -1,6 +1,7 @@
 use Rattle.std.proofs.Common.{[], ◌∷◌, rules, subst}
 use Rattle.test_report_engine.specs.Lines.{file}
 use Rattle.test_report_engine.specs.Report.{IsReport}
+use Rattle.test_report_forms.specs.Form.{lines}
 use Rattle.test_report_forms.specs.Text.{text_last, text_line}
 use Rattle.test_report_uses.proofs.WholeReports.{if_known, is-written}
 use Rattle.test_report_uses.proofs.of_test_report_engine.succeeds.Goals as goal
@@ -15,7 +16,8 @@ returns-clause-reports g c =
     (c.new-report.ensures.reads c.new.ensures.nothing) reads c.in_ok-end.ensures.finishes in (
       written.0,
       c.in_ok-end.end,
-      subst (λ o. IsReport 60000000 (text_line o) (text_last o) (file input ∷ []) written.0 c.in_ok-end.end) c.new.ensures.options written.1,
+      subst (λ o. IsReport 60000000 (lines text_line (λ p entry. []) o) (text_last o) (file input ∷ []) written.0 c.in_ok-end.end)
+          c.new.ensures.options written.1,
       written.2,
       search (rules, c.eq.ensures),
     ))
