@@ -58,8 +58,10 @@ Examples:
   test-report --format junit first.jsonl second.jsonl    two files, as one run
 
 A COMMAND such as `cargo test`, `cargo bench` or `cargo nextest run` gets what makes it write JSON. Nothing is compiled
-in another way or again, unless your settings of cargo or a variable name a runner or a rustdoc. Another COMMAND is run
-as it is. Its lines that are no events, such as the compiler's messages, go to standard error as with `--others always`.
+in another way or again, unless your settings of cargo or a variable name a runner or a rustdoc. Before `cargo test` and
+`cargo bench`, the same cargo builds the tests alone, so that suites have the names that nextest gives them. A package
+whose build script runs in each build is then compiled twice. Another COMMAND is run as it is. Its lines that are no
+events, such as the compiler's messages, go to standard error as with `--others always`.
 
 In a pipe, `set -o pipefail` makes the pipe fail if the test command does:
   RUSTC_BOOTSTRAP=1 cargo test --no-fail-fast -- -Z unstable-options --format json 2>&1 | test-report

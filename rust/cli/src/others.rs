@@ -1,5 +1,6 @@
 //! The lines of a run that are no events, which the program passes on.
 
+use crate::command::repeated::Repeated;
 use crate::program::KeepError;
 use std::io::{self, Write};
 
@@ -10,6 +11,9 @@ pub struct Others<W> {
     /// True if the lines are written, and false if they are dropped.
     pub are_wanted: bool,
 
+    /// The lines that were written before, and are dropped if they come again. The engine writes each line in one call.
+    pub repeated: Repeated,
+
     has_failed: bool,
 }
 
@@ -19,6 +23,7 @@ impl<W> Others<W> {
         Others {
             writer: KeepError::new(writer),
             are_wanted: false,
+            repeated: Repeated::default(),
             has_failed: false,
         }
     }
@@ -31,7 +36,7 @@ impl<W> Others<W> {
 
 impl<W: Write> Write for Others<W> {
     fn write(&mut self, buffer: &[u8]) -> io::Result<usize> {
-        if !self.are_wanted || self.has_failed {
+        if !self.are_wanted || self.has_failed || self.repeated.repeats(buffer) {
             return Ok(buffer.len());
         }
         let written = self.writer.write(buffer);

@@ -1,8 +1,6 @@
 //! Reads the files of a run, or what its command writes, and shows the progress meanwhile.
 
-use crate::command::end::end_of;
-use crate::command::prepared::prepare;
-use crate::command::running::{LOOK, RunningCommand};
+use crate::command::repeated::Repeated;
 use crate::interrupt::Interrupt;
 use crate::others::Others;
 use crate::output_files::STANDARD_INPUT;
@@ -17,24 +15,18 @@ use crate::test_report_engine::progress::progress_text;
 use crate::test_report_engine::report::Report;
 use crate::test_report_forms::files::FileTexts;
 use crate::test_report_forms::form::Form;
-use crate::test_report_run::note::{CommandEnd, RunEnd};
+use crate::test_report_run::note::RunEnd;
 use std::cell::RefCell;
 use std::ffi::OsString;
 use std::fs::File;
 use std::io::{self, Read, Stderr, Write};
-use std::thread;
 use std::time::{Duration, Instant};
+
+mod command;
 
 /// The message after Ctrl-C, if the input stays open.
 const STILL_READING: &str =
     "test-report: the summary follows at the end of the input; a second Ctrl-C ends without it";
-
-/// The message after Ctrl-C, if the command does not end.
-const STILL_RUNNING: &str =
-    "test-report: the summary follows at the end of the command; a second Ctrl-C ends without it";
-
-/// The time between two looks at a command that has closed its output and has not ended.
-const SHORT_LOOK: Duration = Duration::from_millis(5);
 
 /// What a run is read from.
 #[derive(Clone, Debug, PartialEq, Eq)]
@@ -122,6 +114,9 @@ pub struct RunReader<'a, 'line, F: Form, W: Write> {
     shows_progress: bool,
     starts: StartTimes,
 
+    /// True if the report was told why the run is cancelled.
+    is_cancelled: bool,
+
     /// The message after Ctrl-C, until it was written. It is absent from the start if nobody would read it.
     message: Option<&'static str>,
 }
@@ -145,6 +140,7 @@ impl<'a, 'line, F: Form, W: Write> RunReader<'a, 'line, F, W> {
             interrupt,
             shows_progress,
             starts: StartTimes::default(),
+            is_cancelled: false,
             message: has_reader.then_some(STILL_READING),
         }
     }
@@ -198,72 +194,6 @@ impl<'a, 'line, F: Form, W: Write> RunReader<'a, 'line, F, W> {
         }
     }
 
-    /// Runs the command of the run, reads what it writes, and passes its end to the report.
-    fn run_command(&mut self, words: &[OsString]) -> Result<(), Failure> {
-        self.streams.others.are_wanted = self.pass_on.of_command();
-        self.message = self.message.map(|_| STILL_RUNNING);
-        let prepared = prepare(words);
-        if let Some(message) = prepared.message {
-            self.streams.line.borrow_mut().say(message);
-        }
-        self.report.start_command();
-        let end = match RunningCommand::start(prepared.command()) {
-            Ok((mut command, output)) => {
-                let reading = Reading::start(output).map_err(unread)?;
-                self.read_output(&reading, &mut command)?;
-                self.wait_for(&mut command)?
-            }
-            Err(error) => CommandEnd::NotStarted {
-                error: error.to_string(),
-            },
-        };
-        self.end_command(&end)?;
-        Ok(())
-    }
-
-    /// Reads what a command writes, until the pipe ends or the command is over.
-    fn read_output(
-        &mut self,
-        reading: &Reading,
-        command: &mut RunningCommand,
-    ) -> Result<(), Failure> {
-        loop {
-            if let Some(piece) = self.next_piece(reading, Some(LOOK))? {
-                if piece.is_empty() {
-                    return Ok(());
-                }
-                self.take_piece(&piece)?;
-                command.note_output(Instant::now());
-            }
-            self.pass_signal_on(command);
-            if command.is_over(Instant::now()).map_err(not_waited)? {
-                return Ok(());
-            }
-            self.draw();
-        }
-    }
-
-    /// Waits for the end of a command whose output has ended.
-    fn wait_for(&mut self, command: &mut RunningCommand) -> Result<CommandEnd, Failure> {
-        loop {
-            if let Some(status) = command.status().map_err(not_waited)? {
-                return Ok(end_of(status));
-            }
-            thread::sleep(SHORT_LOOK);
-            self.pass_signal_on(command);
-            self.say_once();
-            self.draw();
-        }
-    }
-
-    /// Passes the end of the command to the report.
-    fn end_command(&mut self, end: &CommandEnd) -> Result<(), Fault> {
-        let mut sink = StdSink::new(&mut self.streams.output);
-        let mut others = StdSink::new(&mut self.streams.others);
-        self.report
-            .end_command(end, &mut self.pieces, &mut sink, &mut others)
-    }
-
     /// Returns the next piece, or `None` if something else is to be done first, at latest after `longest`.
     fn next_piece(
         &mut self,
@@ -283,6 +213,7 @@ impl<'a, 'line, F: Form, W: Write> RunReader<'a, 'line, F, W> {
     /// Passes a piece of a file to the report. An empty piece is the end of the file.
     fn take_piece(&mut self, mut piece: &[u8]) -> Result<(), Fault> {
         loop {
+            self.cancel_once();
             let mut source = StdSource::new(&mut piece);
             let mut sink = StdSink::new(&mut self.streams.output);
             let mut others = StdSink::new(&mut self.streams.others);
@@ -292,16 +223,22 @@ impl<'a, 'line, F: Form, W: Write> RunReader<'a, 'line, F, W> {
                 break;
             }
         }
-        if self.shows_progress && self.report.run().has_suite() {
-            self.streams.line.borrow_mut().note_input();
+        if self.report.run().has_suite() {
+            self.streams.others.repeated = Repeated::default();
+            if self.shows_progress {
+                self.streams.line.borrow_mut().note_input();
+            }
         }
         Ok(())
     }
 
-    /// Sends SIGTERM on to a command. Ctrl-C on a terminal reaches the command by itself.
-    fn pass_signal_on(&self, command: &mut RunningCommand) {
-        if self.interrupt.take_terminate() {
-            command.terminate();
+    /// Tells the report, once, why the run is cancelled, if a signal has come.
+    fn cancel_once(&mut self) {
+        if let Some(reason) = self.interrupt.reason()
+            && !self.is_cancelled
+        {
+            self.is_cancelled = true;
+            self.report.cancel(reason);
         }
     }
 
@@ -329,9 +266,4 @@ impl<'a, 'line, F: Form, W: Write> RunReader<'a, 'line, F, W> {
 /// Returns the failure of a read.
 fn unread(error: io::Error) -> Failure {
     Failure::from(Fault::Read).caused_by(Some(error))
-}
-
-/// Returns the failure to learn whether a command has ended.
-fn not_waited(error: io::Error) -> Failure {
-    Failure::new(DEVICE_FAILED, "the command cannot be waited for").caused_by(Some(error))
 }

@@ -3,6 +3,7 @@
 use deodarsieve_cli::test_report_events::line::Line;
 use deodarsieve_cli::test_report_run::note::{CargoReport, CommandEnd, Disagreement, Note};
 use deodarsieve_cli::test_report_run::run::TestRun;
+use deodarsieve_cli::test_report_run::suite_names::SuiteNames;
 
 /// The time in microseconds from which on a test is slow.
 const SLOW: u64 = 60_000_000;
@@ -40,7 +41,7 @@ fn pass_lines(run: &mut TestRun, text: &str) -> Vec<Disagreement> {
 /// Returns the disagreements that become known at the end of a command with this output.
 fn command_ends(output: &str, end: &CommandEnd) -> Vec<Disagreement> {
     let mut run = TestRun::new(SLOW);
-    run.on_command_started();
+    run.on_command_started(SuiteNames::new());
     pass_lines(&mut run, output);
     run.on_command_ended(end);
     disagreements(run.end_file().unwrap())
@@ -70,7 +71,7 @@ fn assert_refused(disagreements: &[Disagreement]) {
 #[test]
 fn a_failure_of_cargo_waits_for_the_end_of_the_command() {
     let mut run = TestRun::new(SLOW);
-    run.on_command_started();
+    run.on_command_started(SuiteNames::new());
     assert!(pass_lines(&mut run, REFUSED).is_empty());
     assert!(pass_lines(&mut run, "   Doc-tests a\n").is_empty());
     run.on_command_ended(&CommandEnd::Status { code: 101 });

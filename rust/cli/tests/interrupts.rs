@@ -20,19 +20,29 @@ const FAILED: &str = r#"{ "type": "suite", "event": "started", "test_count": 2 }
 const LATER: &str = r#"{ "type": "test", "name": "pays", "event": "failed", "stdout": "Error: no money\n" }
 "#;
 
-/// The report of the run.
-const REPORT: &str = "\
+/// Returns the report of the run if a signal comes after the first failed test. After Ctrl-C the second failed test has
+/// only its line. After SIGTERM it is shown as without a signal.
+fn report_after(signal: &str) -> String {
+    let (why, listed) = match signal {
+        "INT" => ("", ""),
+        _ => (
+            "    Error: no money\n",
+            "        FAIL suite 1 pays: Error: no money\n",
+        ),
+    };
+    format!(
+        "\
 FAIL suite 1 adds
     Error: no such currency
 FAIL suite 1 pays
-    Error: no money
-suite 1 ended early
+{why}suite 1 ended early
 ------------
      Summary 2 tests run: 0 passed (0 flaky), 2 failed (0 timed out, 0 crashed), 0 skipped, 0 not run
         FAIL suite 1 adds: Error: no such currency
-        FAIL suite 1 pays: Error: no money
-outcome failed
-";
+{listed}outcome failed
+"
+    )
+}
 
 /// The end of the line that says what the program waits for.
 const STILL_READING: &str = "; a second Ctrl-C ends without it\n";
@@ -67,7 +77,7 @@ fn the_first_signal_leaves_the_summary_and_the_files() {
             .expect("the program still reads");
         drop(running.stdin);
         let (rest, _) = read_until(stdout, "outcome failed\n");
-        assert_eq!([first, rest].concat(), REPORT, "{signal}");
+        assert_eq!([first, rest].concat(), report_after(signal));
         assert_eq!(end_of(running.child).code(), Some(1), "{signal}");
         let xml = fs::read_to_string(&file).expect("the file is there");
         assert!(
@@ -168,8 +178,14 @@ exit 101
 
 /// Starts `test-report` with a command that waits until a file is there.
 fn start_with_command(folder: &str) -> Running {
-    let mut command = command("test-report", &["--progress", "always", "--"]);
+    start_with(&["--progress", "always"], folder)
+}
+
+/// Starts `test-report` with these options and that command.
+fn start_with(options: &[&str], folder: &str) -> Running {
+    let mut command = command("test-report", options);
     command
+        .arg("--")
         .args(["sh", "-c", COMMAND, "sh", folder])
         .env("FAILED", FAILED.trim_end())
         .env("LATER", LATER.trim_end());
@@ -185,7 +201,7 @@ fn the_first_interrupt_leaves_the_command_alone() {
     let stderr = wait_for(running.stderr, STILL_READING);
     fs::write(folder.file("go"), "").expect("the folder is there");
     let (rest, _) = read_until(stdout, "outcome failed\n");
-    assert_eq!([first, rest].concat(), REPORT);
+    assert_eq!([first, rest].concat(), report_after("INT"));
     assert_eq!(end_of(running.child).code(), Some(1));
     drop((running.stdin, stderr));
 }
@@ -197,9 +213,39 @@ fn the_first_sigterm_is_sent_on_to_the_command() {
     let (first, stdout) = read_until(running.stdout, "    Error: no such currency\n");
     send("TERM", &running.child);
     let (rest, _) = read_until(stdout, "outcome failed\n");
-    assert_eq!([first, rest].concat(), REPORT);
+    assert_eq!([first, rest].concat(), report_after("TERM"));
     assert_eq!(end_of(running.child).code(), Some(1));
     drop((running.stdin, running.stderr));
+}
+
+/// Runs the command with a report that shows twice why tests failed, sends a signal after the first failed test, and
+/// returns the report.
+fn report_with_output_twice(signal: &str) -> String {
+    let folder = Folder::new(&format!("twice{signal}"));
+    let running = start_with(&["--failure-output", "immediate-final"], &folder.file(""));
+    let (first, stdout) = read_until(running.stdout, "    Error: no such currency\n");
+    send(signal, &running.child);
+    if signal == "INT" {
+        fs::write(folder.file("go"), "").expect("the folder is there");
+    }
+    let (rest, _) = read_until(stdout, "outcome failed\n");
+    assert_eq!(end_of(running.child).code(), Some(1), "{signal}");
+    drop((running.stdin, running.stderr));
+    first + &rest
+}
+
+#[test]
+fn less_is_shown_of_the_tests_that_end_after_a_signal() {
+    // A test that is listed has its short reason there, too.
+    for (signal, lines, reasons) in [("INT", 1, 0), ("TERM", 2, 2)] {
+        let report = report_with_output_twice(signal);
+        let count = |text: &str| report.matches(text).count();
+        assert_eq!(count("FAIL suite 1 adds"), 2, "{report}");
+        assert_eq!(count(" Error: no such currency\n"), 3, "{report}");
+        assert_eq!(count("FAIL suite 1 pays"), lines, "{report}");
+        assert_eq!(count(" Error: no money\n"), reasons, "{report}");
+        assert!(report.contains(" 2 failed "), "{report}");
+    }
 }
 
 #[test]

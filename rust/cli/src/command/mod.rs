@@ -1,8 +1,10 @@
 //! Runs the command whose tests are reported, for example `cargo test`.
 
+pub mod artifacts;
 pub mod cargo;
 pub mod end;
 pub mod prepared;
+pub mod repeated;
 pub mod running;
 pub mod settings;
 pub mod stand_in;

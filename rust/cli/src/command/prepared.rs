@@ -6,7 +6,8 @@ use super::stand_in::{ACCEPT_OPTIONS, AS_RUNNER, AS_RUSTDOC, BOOTSTRAP, missing_
 use std::env;
 use std::ffi::OsString;
 use std::io::{self, IsTerminal};
-use std::process::Command;
+use std::path::PathBuf;
+use std::process::{Command, Stdio};
 
 /// The variable without which nextest refuses to write JSON lines.
 const NEXTEST_JSON: &str = "NEXTEST_EXPERIMENTAL_LIBTEST_JSON";
@@ -18,17 +19,33 @@ const CARGO_COLOR: &str = "CARGO_TERM_COLOR";
 const COST: &str = "test-report: RUSTC_BOOTSTRAP is set for the whole of cargo, because your settings name a runner or \
                     a rustdoc: packages whose build script watches this variable are compiled anew";
 
+/// The arguments with which cargo builds the tests and says which programs they are, and runs none.
+const BUILDS: [&str; 3] = ["--no-run", "--message-format", "json-render-diagnostics"];
+
 /// A command and what is added to it.
 #[derive(Debug, PartialEq, Eq)]
 pub struct Prepared {
     /// The program and its arguments.
     pub words: Vec<OsString>,
 
+    /// What is run before, for the names of the suites.
+    pub build: Option<Build>,
+
     /// The variables that are set for the command.
     pub variables: Vec<(&'static str, OsString)>,
 
     /// A message for the user.
     pub message: Option<&'static str>,
+}
+
+/// A cargo that builds the tests of a command, and says which programs they are.
+#[derive(Debug, PartialEq, Eq)]
+pub struct Build {
+    /// The program and its arguments.
+    words: Vec<OsString>,
+
+    /// The folder in which cargo works.
+    pub folder: PathBuf,
 }
 
 /// How a stable toolchain's harness is made to accept `-Z unstable-options`.
@@ -62,10 +79,22 @@ pub fn prepare(words: &[OsString]) -> Prepared {
 impl Prepared {
     /// Returns the command for the system. It cannot be started if there are no words.
     pub fn command(&self) -> Command {
-        let program = self.words.first().cloned().unwrap_or_default();
+        self.command_of(&self.words)
+    }
+
+    /// Returns the command that builds the tests. It has the same variables, so it compiles what the command needs.
+    pub fn build_command(&self, build: &Build) -> Command {
+        let mut command = self.command_of(&build.words);
+        command.stdin(Stdio::null());
+        command
+    }
+
+    /// Returns a command of these words for the system.
+    fn command_of(&self, words: &[OsString]) -> Command {
+        let program = words.first().cloned().unwrap_or_default();
         let variables = self.variables.iter().map(|(name, value)| (name, value));
         let mut command = Command::new(program);
-        command.args(self.words.iter().skip(1)).envs(variables);
+        command.args(words.iter().skip(1)).envs(variables);
         command
     }
 }
@@ -74,6 +103,7 @@ impl Prepared {
 fn unchanged(words: &[OsString]) -> Prepared {
     Prepared {
         words: words.to_vec(),
+        build: None,
         variables: Vec::new(),
         message: None,
     }
@@ -116,6 +146,7 @@ fn with_harness(cargo: &CargoCommand, acceptance: &Acceptance) -> Prepared {
         Acceptance::Given => {}
     }
     words.extend_from_slice(cargo.subcommand);
+    prepared.build = build_of(cargo, &words);
     if !cargo.own.iter().any(|word| word == "--no-fail-fast") {
         words.push("--no-fail-fast".into());
     }
@@ -132,6 +163,34 @@ fn with_harness(cargo: &CargoCommand, acceptance: &Acceptance) -> Prepared {
         words.extend(harness);
     }
     Prepared { words, ..prepared }
+}
+
+/// Returns what builds the tests of a command that begins with the words `before`. Returns `None` if cargo would refuse
+/// it: cargo cannot build documentation tests alone, and has only one message format.
+fn build_of(cargo: &CargoCommand, before: &[OsString]) -> Option<Build> {
+    let refuses = cargo.own.iter().any(|word| word == "--doc")
+        || !values_of(cargo.own, "--message-format").is_empty();
+    if refuses {
+        return None;
+    }
+    let mut words = before.to_vec();
+    words.extend(BUILDS.map(OsString::from));
+    words.extend_from_slice(cargo.own);
+    Some(Build {
+        words,
+        folder: folder_of(cargo).ok()?,
+    })
+}
+
+/// Returns the folder in which cargo works.
+///
+/// Fails if there is none.
+fn folder_of(cargo: &CargoCommand) -> io::Result<PathBuf> {
+    let folder = env::current_dir()?;
+    match values_of(cargo.before, "-C").last() {
+        Some(path) => folder.join(path).canonicalize(),
+        None => Ok(folder),
+    }
 }
 
 /// Returns the settings of cargo by which it starts the program at `path` in place of test programs and of rustdoc.
@@ -158,6 +217,7 @@ fn with_nextest(cargo: &CargoCommand) -> Prepared {
     }
     Prepared {
         words,
+        build: None,
         variables: vec![(NEXTEST_JSON, "1".into())],
         message: None,
     }
@@ -225,6 +285,49 @@ mod tests {
         assert_eq!(prepared.words[7..], ["--no-fail-fast"]);
         assert_eq!(prepared.variables, [(AS_RUSTDOC, "1".into())]);
         assert_eq!(prepared.message, None);
+    }
+
+    #[test]
+    fn cargo_builds_first_with_the_same_arguments() {
+        let given = words("cargo --locked bench --lib a -- --exact");
+        let cargo = CargoCommand::of(&given).expect("the command runs tests");
+        let build_of = |acceptance| with_harness(&cargo, acceptance).build;
+        let build = build_of(&Acceptance::Given).expect("cargo can build");
+        let builds = "--no-run --message-format json-render-diagnostics";
+        let wanted = words(&format!("cargo --locked bench {builds} --lib a"));
+        assert_eq!(build.words, wanted);
+        assert_eq!(build.folder, env::current_dir().expect("there is a folder"));
+        let build = build_of(&Acceptance::StandIn("a".into())).expect("cargo can build");
+        assert_eq!(build.words[2], "--config");
+        assert_eq!(build.words[6..], wanted[2..]);
+    }
+
+    #[test]
+    fn cargo_builds_nothing_first_if_it_would_refuse_that() {
+        for command in [
+            "cargo test --doc",
+            "cargo test --message-format short",
+            "cargo test --message-format=json",
+            "cargo test --no-run",
+            "cargo nextest run",
+            "cargo test -- --format pretty",
+            "make test",
+        ] {
+            assert_eq!(prepare(&words(command)).build, None, "{command}");
+        }
+    }
+
+    #[test]
+    fn the_folder_of_cargo_is_that_of_its_last_option() {
+        let folder = |command: &str| {
+            let given = words(command);
+            folder_of(&CargoCommand::of(&given).expect("the command runs tests"))
+        };
+        let own = env::current_dir().expect("there is a folder");
+        assert_eq!(folder("cargo test -C x").expect("it is there"), own);
+        let source = own.join("src").canonicalize().expect("it is there");
+        assert_eq!(folder("cargo -C src test").expect("it is there"), source);
+        assert!(folder("cargo -C no/such/folder test").is_err());
     }
 
     #[test]

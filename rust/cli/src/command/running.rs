@@ -34,14 +34,28 @@ impl RunningCommand {
     pub fn start(mut command: Command) -> io::Result<(RunningCommand, PipeReader)> {
         let (output, writer) = pipe()?;
         command.stdout(writer.try_clone()?).stderr(writer);
-        // The command is dropped at the end, and with it the ends of the pipe that this program has.
-        let child = command.spawn()?;
-        let running = RunningCommand {
-            child,
+        Ok((RunningCommand::spawn(command)?, output))
+    }
+
+    /// Starts a command. Returns it, what it writes to standard output, and what it writes to standard error.
+    ///
+    /// Fails if the command cannot be started.
+    pub fn start_apart(
+        mut command: Command,
+    ) -> io::Result<(RunningCommand, PipeReader, PipeReader)> {
+        let (output, output_writer) = pipe()?;
+        let (errors, errors_writer) = pipe()?;
+        command.stdout(output_writer).stderr(errors_writer);
+        Ok((RunningCommand::spawn(command)?, output, errors))
+    }
+
+    /// Starts a command. It is dropped, and with it the ends of the pipes that this program would have.
+    fn spawn(mut command: Command) -> io::Result<RunningCommand> {
+        Ok(RunningCommand {
+            child: command.spawn()?,
             status: None,
             last: Instant::now(),
-        };
-        Ok((running, output))
+        })
     }
 
     /// Notes that output came.
@@ -159,6 +173,17 @@ mod tests {
         output.read_to_string(&mut text).expect("the pipe ends");
         assert_eq!(text, "a\nb\nc\n");
         assert_eq!(status_of(&mut running).code(), Some(7));
+    }
+
+    #[test]
+    fn the_streams_of_a_command_can_be_read_apart() {
+        let mut command = Command::new("sh");
+        command.args(["-c", "echo a; echo b >&2; echo c"]);
+        let (mut running, output, errors) =
+            RunningCommand::start_apart(command).expect("a shell starts");
+        let text = |reader| io::read_to_string(reader).expect("the pipe ends");
+        assert_eq!([text(output), text(errors)], ["a\nc\n", "b\n"]);
+        assert_eq!(status_of(&mut running).code(), Some(0));
     }
 
     #[test]

@@ -13,7 +13,9 @@ use crate::test_report_forms::form::Form;
 use crate::test_report_run::error::RunError;
 use crate::test_report_run::note::{CommandEnd, Note, RunEnd};
 use crate::test_report_run::run::TestRun;
+use crate::test_report_run::suite_names::SuiteNames;
 use bstr::ByteSlice;
+use deodarsieve::CancelReason;
 
 /// The number of bytes that are read at once.
 const CHUNK: usize = 16_384;
@@ -109,9 +111,18 @@ impl<F: Form> Report<F> {
     }
 
     /// Notes that the output of a command is read next. Call it before the first piece of the output, and
-    /// `end_command` after the last one.
-    pub fn start_command(&mut self) {
-        self.run.on_command_started();
+    /// `end_command` after the last one. The suites after a heading have the name in `names` of the path in the
+    /// heading, if there is one.
+    pub fn start_command(&mut self, names: SuiteNames) {
+        self.run.on_command_started(names);
+    }
+
+    /// Notes that the run is cancelled for this reason. Of the tests that become known from now on, `TextForm` and
+    /// `AnnotatedForm` show as much as the levels of the layer show for this reason.
+    ///
+    /// The promises of the other calls about whole inputs hold only if `cancel` was not called.
+    pub fn cancel(&mut self, reason: CancelReason) {
+        self.run.on_cancelled(reason);
     }
 
     /// Takes the rest of the last line of the output of a command, and how the command ended. If this makes something
@@ -206,7 +217,7 @@ impl<F: Form> Report<F> {
         self.write(notes.as_slice(), sink)
     }
 
-    /// Writes the text of notes, and flushes the sink if there is text.
+    /// Writes the text of the notes of a line, or of the end of an input, and flushes the sink if there is text.
     fn write<W: Sink>(&mut self, notes: &[Note], sink: &mut W) -> Result<(), Fault> {
         let text = self.lines_of(notes);
         if text.is_empty() {
@@ -216,14 +227,17 @@ impl<F: Form> Report<F> {
         Ok(())
     }
 
-    /// Passes notes to the forms, and returns the text that is written at once.
+    /// Passes the notes of a line, or of the end of an input, to the forms, and returns the text that is written at
+    /// once: the text of each note, and then what the form writes after these texts.
     fn lines_of(&mut self, notes: &[Note]) -> String {
         let mut text = String::new();
+        let mut behind = String::new();
         for note in notes {
             let entry = Entry::of(note);
             self.files.on_entry(&entry);
-            self.form.on_entry(&entry, &mut text);
+            self.form.on_entry(&entry, &mut text, &mut behind);
         }
+        text.push_str(behind.as_str());
         text
     }
 }

@@ -8,8 +8,9 @@ use crate::test_report_forms::options::Options;
 use crate::test_report_forms::text::TextForm;
 use crate::test_report_run::note::RunEnd;
 
-/// The form for people with the annotations of [`GithubForm`] between its lines: the annotation of an entry comes after
-/// the text of the entry, and the notice after the last line. So one log is read by people and by GitHub.
+/// The form for people with the annotations of [`GithubForm`] between its lines: the annotations of the entries that one
+/// line of the input makes known come after the texts of all these entries, and the notice after the last line. So one
+/// log is read by people and by GitHub.
 #[derive(Clone)]
 pub struct AnnotatedForm {
     text: TextForm,
@@ -28,9 +29,9 @@ impl AnnotatedForm {
 }
 
 impl Form for AnnotatedForm {
-    fn on_entry(&mut self, entry: &Entry<'_>, text: &mut String) {
-        self.text.on_entry(entry, text);
-        self.github.on_entry(entry, text);
+    fn on_entry(&mut self, entry: &Entry<'_>, text: &mut String, behind: &mut String) {
+        self.text.on_entry(entry, text, behind);
+        self.github.on_entry(entry, behind, text);
     }
 
     fn on_end(&mut self, end: &RunEnd, text: &mut String) {

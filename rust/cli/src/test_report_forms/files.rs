@@ -74,7 +74,7 @@ impl FileForms {
 /// Passes an entry to a form, if there is one. What the form writes at once is dropped.
 fn take_entry<F: Form>(form: &mut Option<F>, entry: &Entry<'_>) {
     if let Some(form) = form {
-        form.on_entry(entry, &mut String::new())
+        form.on_entry(entry, &mut String::new(), &mut String::new())
     }
 }
 

@@ -7,9 +7,10 @@ use crate::test_report_run::note::RunEnd;
 /// A form of a report. It appends the text of each entry at once, and more text at the end of the run. It keeps
 /// what it needs for the end.
 pub trait Form {
-    /// Takes the next entry, and appends its text. The only error is that memory runs out. After an error nothing
-    /// is promised about the form and the text.
-    fn on_entry(&mut self, entry: &Entry<'_>, text: &mut String);
+    /// Takes the next entry, and appends its text. Text that belongs after the texts of all entries of the same
+    /// line of the input goes to `behind`. The only error is that memory runs out. After an error nothing is
+    /// promised about the form, the text and `behind`.
+    fn on_entry(&mut self, entry: &Entry<'_>, text: &mut String, behind: &mut String);
 
     /// Appends the text that is written at the end of the run. Errors are those of `on_entry`.
     fn on_end(&mut self, end: &RunEnd, text: &mut String);

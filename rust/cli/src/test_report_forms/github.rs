@@ -81,7 +81,7 @@ fn push_message(text: &mut String, test: &TestNote, why: &ShownWhy, limit: usize
 }
 
 impl Form for GithubForm {
-    fn on_entry(&mut self, entry: &Entry<'_>, text: &mut String) {
+    fn on_entry(&mut self, entry: &Entry<'_>, text: &mut String, _: &mut String) {
         match entry {
             Entry::Failed { test, failure, why } => {
                 self.push_failed(test, failure, why, text);

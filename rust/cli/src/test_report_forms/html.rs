@@ -27,7 +27,7 @@ impl HtmlForm {
 }
 
 impl Form for HtmlForm {
-    fn on_entry(&mut self, entry: &Entry<'_>, _: &mut String) {
+    fn on_entry(&mut self, entry: &Entry<'_>, _: &mut String, _: &mut String) {
         self.model.on_entry(entry);
     }
 

@@ -96,7 +96,7 @@ impl JsonForm {
 }
 
 impl Form for JsonForm {
-    fn on_entry(&mut self, entry: &Entry<'_>, _: &mut String) {
+    fn on_entry(&mut self, entry: &Entry<'_>, _: &mut String, _: &mut String) {
         self.take(entry);
     }
 

@@ -147,7 +147,7 @@ fn push_own(suites: &mut Vec<Suite<Case>>, own: Vec<Case>) {
 }
 
 impl Form for JunitForm {
-    fn on_entry(&mut self, entry: &Entry<'_>, _: &mut String) {
+    fn on_entry(&mut self, entry: &Entry<'_>, _: &mut String, _: &mut String) {
         self.take(entry);
     }
 

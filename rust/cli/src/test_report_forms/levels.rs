@@ -4,8 +4,8 @@
 use crate::test_report_forms::options::Options;
 use crate::test_report_run::counted::{Finish, finished_test};
 use deodarsieve::{
-    ExecutionResultDescription, FinalStatusLevel, FinishedTest, OutputOnTestFinished, StatusLevel,
-    StatusLevels, TestOutputDisplay,
+    CancelReason, ExecutionResultDescription, FinalStatusLevel, FinishedTest, OutputOnTestFinished,
+    StatusLevel, StatusLevels, TestOutputDisplay,
 };
 
 /// Returns the levels of a report.
@@ -44,29 +44,35 @@ pub(crate) fn own_final_level(finish: Finish, attempts: usize, is_slow: bool) ->
         .final_status_level()
 }
 
-/// Returns what is shown of a finished test, and what is stored for the list at the end.
+/// Returns what is shown of a finished test, and what is stored for the list at the end. `cancel` is the
+/// reason why the run had been cancelled when the test became known, if it had been. The layer shows no more for a more
+/// severe reason.
 pub(crate) fn finished_output(
     options: Options,
     finish: Finish,
     attempts: usize,
     is_slow: bool,
+    cancel: Option<CancelReason>,
 ) -> OutputOnTestFinished {
     let test = own_test(finish, attempts, is_slow);
     let view = test.view();
     levels_of(options).compute_output_on_test_finished(
         display_of(options, finish),
-        None,
+        cancel,
         view.status_level(),
         view.final_status_level(),
         view.result,
     )
 }
 
-/// Returns what is shown of a skipped test, and what is stored for the list at the end.
-pub(crate) fn skipped_output(options: Options) -> OutputOnTestFinished {
+/// Returns what is shown of a skipped test, and what is stored for the list at the end, as `finished_output` does.
+pub(crate) fn skipped_output(
+    options: Options,
+    cancel: Option<CancelReason>,
+) -> OutputOnTestFinished {
     levels_of(options).compute_output_on_test_finished(
         TestOutputDisplay::Never,
-        None,
+        cancel,
         StatusLevel::Skip,
         FinalStatusLevel::Skip,
         &ExecutionResultDescription::Pass,

@@ -122,8 +122,14 @@ fn push_item(text: &mut String, entry: &Entry<'_>, options: Options) {
 
 /// Appends the line of a test that passed, if the test is in the list, and its output, if that is shown there.
 fn push_passed(text: &mut String, test: &TestNote, options: Options) {
-    let OutputStoreFinal::Yes { display_output } =
-        finished_output(options, Finish::Passed, test.attempts, test.slow).store_final
+    let OutputStoreFinal::Yes { display_output } = finished_output(
+        options,
+        Finish::Passed,
+        test.attempts,
+        test.slow,
+        test.cancel,
+    )
+    .store_final
     else {
         return;
     };
@@ -136,7 +142,7 @@ fn push_passed(text: &mut String, test: &TestNote, options: Options) {
 
 /// Appends the line of a skipped test, if the test is in the list.
 fn push_skipped(text: &mut String, test: &TestNote, options: Options) {
-    match skipped_output(options).store_final {
+    match skipped_output(options, test.cancel).store_final {
         OutputStoreFinal::Yes { .. } => push_ended(text, test, "SKIP", options),
         OutputStoreFinal::No => {}
     }
@@ -156,6 +162,7 @@ fn push_failed(
         Finish::of_failure(&failure.kind),
         test.attempts,
         test.slow,
+        test.cancel,
     )
     .store_final
     {

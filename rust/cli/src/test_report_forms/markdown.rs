@@ -26,7 +26,7 @@ impl MarkdownForm {
 }
 
 impl Form for MarkdownForm {
-    fn on_entry(&mut self, entry: &Entry<'_>, _: &mut String) {
+    fn on_entry(&mut self, entry: &Entry<'_>, _: &mut String, _: &mut String) {
         self.model.on_entry(entry);
     }
 

@@ -28,7 +28,7 @@
 //!     let entry = Entry::of(note);
 //!     let mut form = TextForm::new(options);
 //!     let mut text = String::new();
-//!     form.on_entry(&entry, &mut text);
+//!     form.on_entry(&entry, &mut text, &mut String::new());
 //!     text
 //! }
 //!

@@ -11,7 +11,7 @@ use crate::test_report_run::note::RunEnd;
 pub struct NamesForm;
 
 impl Form for NamesForm {
-    fn on_entry(&mut self, entry: &Entry<'_>, text: &mut String) {
+    fn on_entry(&mut self, entry: &Entry<'_>, text: &mut String, _: &mut String) {
         if let Entry::Failed { test, .. } = entry {
             push_line(text, test.name.as_str());
             text.push('\n');

@@ -101,6 +101,7 @@ fn push_failed(
         Finish::of_failure(&failure.kind),
         test.attempts,
         test.slow,
+        test.cancel,
     );
     if !has_line(shows) {
         return;
@@ -125,7 +126,13 @@ fn push_counted(text: &mut String, test: &TestNote, options: Options) {
 /// Appends the line of a test that passed and its output, if the levels show them.
 fn push_passed(text: &mut String, test: &TestNote, options: Options) {
     let has_output = passed_output(&test.outcome).is_some();
-    let shows = finished_output(options, Finish::Passed, test.attempts, test.slow);
+    let shows = finished_output(
+        options,
+        Finish::Passed,
+        test.attempts,
+        test.slow,
+        test.cancel,
+    );
     let shows = shown_if(has_output, shows);
     if !has_line(shows) {
         return;
@@ -139,7 +146,7 @@ fn push_passed(text: &mut String, test: &TestNote, options: Options) {
 
 /// Appends the line of a skipped test, if the levels show it.
 fn push_skipped(text: &mut String, test: &TestNote, options: Options) {
-    if !has_line(skipped_output(options)) {
+    if !has_line(skipped_output(options, test.cancel)) {
         return;
     }
     push_ended(text, test, "SKIP", options);
@@ -187,7 +194,7 @@ fn push_outcome(text: &mut String, end: &RunEnd) {
 }
 
 impl Form for TextForm {
-    fn on_entry(&mut self, entry: &Entry<'_>, text: &mut String) {
+    fn on_entry(&mut self, entry: &Entry<'_>, text: &mut String, _: &mut String) {
         self.push_entry(entry, text);
         self.list.on_entry(entry, self.options);
     }

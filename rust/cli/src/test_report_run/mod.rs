@@ -52,4 +52,5 @@ pub mod running;
 mod said;
 mod suite;
 mod suite_name;
+pub mod suite_names;
 mod totals;

@@ -2,7 +2,7 @@
 //! The notes that the lines of a run make known, and the end of a run.
 
 use crate::test_report_events::event::TestResult;
-use deodarsieve::{RunOutcome, RunStats};
+use deodarsieve::{CancelReason, RunOutcome, RunStats};
 use std::rc::Rc;
 
 /// A fact about a run that a line, or the end of a file, makes known.
@@ -46,6 +46,9 @@ pub struct TestNote {
 
     /// True if the test was slow: a line says so, or its time is at least that of a slow test.
     pub slow: bool,
+
+    /// The reason why the run had been cancelled when this became known, if it had been.
+    pub cancel: Option<CancelReason>,
 
     /// Whether the test passed, failed or was skipped.
     pub outcome: TestOutcome,

@@ -26,17 +26,6 @@ pub(crate) struct Rest {
     pub(crate) time: Option<u64>,
 }
 
-/// Returns a test that has no line of its end.
-fn over(test: RunningTest) -> OverTest {
-    OverTest {
-        name: test.name,
-        attempts: 1,
-        time: None,
-        ended: None,
-        slow: test.slow,
-    }
-}
-
 /// Returns a copy of how a test crashed, which shares the text of the prints.
 fn copy_of(crash: &Crash) -> Crash {
     let mut last = Vec::new();
@@ -55,6 +44,26 @@ fn copy_of(crash: &Crash) -> Crash {
 }
 
 impl Suite {
+    /// Returns a test of the suite with the cancel reason of the suite.
+    fn known_now(&self, test: OverTest) -> OverTest {
+        OverTest {
+            cancel: self.cancel,
+            ..test
+        }
+    }
+
+    /// Returns a test of the suite that has no line of its end.
+    fn over(&self, test: RunningTest) -> OverTest {
+        OverTest {
+            name: test.name,
+            attempts: 1,
+            time: None,
+            ended: None,
+            slow: test.slow,
+            cancel: self.cancel,
+        }
+    }
+
     /// Ends the suite without a last line, and adds its notes. `left` are its running tests, which crashed. `others`
     /// are the lines of the file that are no events.
     pub(crate) fn end_early(
@@ -133,7 +142,7 @@ impl Suite {
             message: None,
             reason: None,
         };
-        notes.push(self.note(over(test), TestOutcome::Failed(failure)));
+        notes.push(self.note(self.over(test), TestOutcome::Failed(failure)));
         Ok(())
     }
 
@@ -162,7 +171,8 @@ impl Suite {
                 let (attempts, slow) = (flaky.test.attempts, flaky.test.slow);
                 count(&mut self.stats, Finish::Passed, attempts, slow)?;
                 let output = flaky.stdout;
-                notes.push(self.note(flaky.test, TestOutcome::Passed { output }));
+                let test = self.known_now(flaky.test);
+                notes.push(self.note(test, TestOutcome::Passed { output }));
             }
         }
         Ok(())
@@ -178,7 +188,8 @@ impl Suite {
             message: flaky.message,
             reason: None,
         };
-        notes.push(self.note(flaky.test, TestOutcome::Failed(failure)));
+        let test = self.known_now(flaky.test);
+        notes.push(self.note(test, TestOutcome::Failed(failure)));
         Ok(())
     }
 
@@ -237,7 +248,7 @@ impl Suite {
     fn skip_all(&self, tests: Vec<RunningTest>, notes: &mut Vec<Note>) -> Result<(), RunError> {
         for test in tests {
             let outcome = TestOutcome::Skipped { reason: None };
-            notes.push(self.note(over(test), outcome));
+            notes.push(self.note(self.over(test), outcome));
         }
         Ok(())
     }

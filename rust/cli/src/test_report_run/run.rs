@@ -20,7 +20,9 @@ use crate::test_report_run::others::Others;
 use crate::test_report_run::run::lines::push_damaged;
 use crate::test_report_run::running::Running;
 use crate::test_report_run::suite::Suite;
+use crate::test_report_run::suite_names::SuiteNames;
 use crate::test_report_run::totals::Totals;
+use deodarsieve::CancelReason;
 use std::rc::Rc;
 
 /// A test run, up to the line that was passed last.
@@ -60,6 +62,12 @@ pub struct TestRun {
     /// How the command ended.
     command: Option<CommandEnd>,
 
+    /// The names that are known of the suites of the command.
+    names: SuiteNames,
+
+    /// Why the run is cancelled, if it is.
+    cancel: Option<CancelReason>,
+
     running: Running,
     ended: usize,
     totals: Totals,
@@ -92,6 +100,8 @@ impl TestRun {
             held: Vec::new(),
             of_command: false,
             command: None,
+            names: SuiteNames::new(),
+            cancel: None,
             running: Running::new(),
             ended: 0,
             totals: Totals::new(),
@@ -162,6 +172,7 @@ impl TestRun {
         self.recent = LongestEnd::new();
         self.of_command = false;
         self.command = None;
+        self.names = SuiteNames::new();
         self.causes_at_file = self.causes;
         self.causes_at_cargo = self.causes;
     }

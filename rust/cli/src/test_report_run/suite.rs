@@ -9,7 +9,7 @@ use crate::test_report_run::note::{Note, TestNote, TestOutcome, failed_count};
 use crate::test_report_run::others::{EventPlace, Others, PrintPlace};
 use crate::test_report_run::said::{Said, sum};
 use crate::test_report_run::suite_name::SuiteName;
-use deodarsieve::RunStats;
+use deodarsieve::{CancelReason, RunStats};
 use std::rc::Rc;
 
 /// A test that is over, without its outcome.
@@ -29,6 +29,9 @@ pub(crate) struct OverTest {
 
     /// True if the test was slow.
     pub(crate) slow: bool,
+
+    /// The reason why the run had been cancelled when the test became known, if it had been.
+    pub(crate) cancel: Option<CancelReason>,
 }
 
 impl OverTest {
@@ -40,6 +43,7 @@ impl OverTest {
             time: self.time,
             ended: self.ended,
             slow: self.slow,
+            cancel: self.cancel,
         }
     }
 }
@@ -94,6 +98,9 @@ pub(crate) struct Suite {
 
     /// The place of its last event.
     pub(crate) last_event: EventPlace,
+
+    /// Why the run was cancelled before the suite was over, if it was. The run sets it when the suite is over.
+    pub(crate) cancel: Option<CancelReason>,
 }
 
 impl Suite {
@@ -139,6 +146,7 @@ impl Suite {
             time: None,
             start,
             last_event,
+            cancel: None,
         }
     }
 
@@ -201,6 +209,7 @@ impl Suite {
             time: test.time,
             ended: test.ended,
             slow: test.slow,
+            cancel: test.cancel,
             outcome,
         }
     }

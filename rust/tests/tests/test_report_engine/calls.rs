@@ -11,18 +11,21 @@ use deodarsieve_cli::test_report_forms::form::Form;
 use deodarsieve_cli::test_report_forms::text::TextForm;
 use deodarsieve_cli::test_report_run::note::{CommandEnd, Disagreement, Note};
 use deodarsieve_cli::test_report_run::run::TestRun;
+use deodarsieve_cli::test_report_run::suite_names::SuiteNames;
 
 /// The time in microseconds from which on a test is slow.
 const SLOW: u64 = 60_000_000;
 
-/// Appends what a form writes of notes. Files that have no form take them, too.
+/// Appends what a form writes of the notes of a line. Files that have no form take them, too.
 fn push_notes<F: Form>(notes: &[Note], form: &mut F, text: &mut String) {
     let mut files = FileForms::none();
+    let mut behind = String::new();
     for note in notes {
         let entry = Entry::of(note);
         files.on_entry(&entry);
-        form.on_entry(&entry, text);
+        form.on_entry(&entry, text, &mut behind);
     }
+    text.push_str(&behind);
 }
 
 /// Returns the report of [`RUN`], made call by call.
@@ -49,7 +52,7 @@ fn calls_make_the_report() {
 #[test]
 fn a_command_that_a_signal_ended_disagrees() {
     let mut run = TestRun::new(SLOW);
-    run.on_command_started();
+    run.on_command_started(SuiteNames::new());
     run.on_command_ended(&CommandEnd::Signal { number: 9 });
     let notes = run.end_file().expect("the numbers fit");
     assert!(matches!(

@@ -120,6 +120,44 @@ fn each_form_has_its_report() {
     assert!(is_within(HtmlForm::new(OPTIONS), PAGE));
 }
 
+/// A suite whose end makes known that a test without an end failed, that the counts disagree, and that two tests were not
+/// run.
+const SUITE_END: &str = r#"{"type":"suite","event":"started","test_count":4}
+{"type":"test","event":"started","name":"a"}
+{"type":"test","event":"started","name":"b"}
+{"type":"test","event":"failed","name":"b","message":"why"}
+{"type":"suite","event":"failed","passed":1,"failed":2,"ignored":0,"measured":0,"filtered_out":0}
+"#;
+
+/// Returns what is written of [`SUITE_END`] in the form for people with annotations, up to the summary.
+fn annotated_suite_end() -> String {
+    let mut buffer = [0; 2_000];
+    let mut source = MemorySource::new(SUITE_END.as_bytes(), None);
+    let mut sink = MemorySink::new(&mut buffer, None);
+    let form = AnnotatedForm::new(OPTIONS, OPTIONS);
+    reported(form, &mut source, &mut sink).expect("the devices do not fail");
+    let text = str::from_utf8(sink.written()).expect("a report is UTF-8");
+    let (before, _) = text
+        .split_once("------------\n")
+        .expect("the summary has a rule");
+    before.to_owned()
+}
+
+#[test]
+fn annotations_come_after_all_texts_of_a_line() {
+    assert_eq!(
+        annotated_suite_end(),
+        "FAIL suite 1 b\n    why\n\
+         ::error title=suite 1 b::suite 1 b%0Awhy\n\
+         FAIL suite 1 a\n    no line says how it ended\n\
+         suite 1: its last line counts 1 passed and 2 failed (failed), but 0 of its tests passed and 2 failed\n\
+         suite 1: 2 of 4 tests were not run\n\
+         ::error title=suite 1 a::suite 1 a%0Ano line says how it ended\n\
+         ::error::suite 1: its last line counts 1 passed and 2 failed (failed), but 0 of its tests passed and 2 failed\n\
+         ::error::suite 1: 2 of 4 tests were not run\n"
+    );
+}
+
 /// Returns the forms of all files.
 fn all_files() -> FileForms {
     FileForms {

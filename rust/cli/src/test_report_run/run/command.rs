@@ -4,12 +4,22 @@
 use crate::test_report_run::error::RunError;
 use crate::test_report_run::note::{CargoReport, CommandEnd, Disagreement, Note};
 use crate::test_report_run::run::TestRun;
+use crate::test_report_run::suite_names::SuiteNames;
+use deodarsieve::CancelReason;
 
 impl TestRun {
     /// Notes that the next lines, up to the next call of `end_file`, are the output of a command. Failures that cargo
-    /// reports in them wait for the end of the command: if it ended with status 0, they were prints.
-    pub fn on_command_started(&mut self) {
+    /// reports in them wait for the end of the command: if it ended with status 0, they were prints. The suites after
+    /// a heading have the name in `names` of the path in the heading, if there is one.
+    pub fn on_command_started(&mut self, names: SuiteNames) {
         self.of_command = true;
+        self.names = names;
+    }
+
+    /// Notes that the run is cancelled for this reason, also if it was for another one. The notes of the tests that
+    /// become known from now on have it. Nothing else of the run changes.
+    pub fn on_cancelled(&mut self, reason: CancelReason) {
+        self.cancel = Some(reason);
     }
 
     /// Notes how the command ended whose output was read. Call it before `end_file`, which returns what this makes

@@ -15,9 +15,15 @@ impl TestRun {
     /// Takes a heading of cargo.
     pub(crate) fn on_heading(&mut self, name: &str, path: Option<&str>) -> Result<(), RunError> {
         self.others.on_heading()?;
-        let name = self.headings.on_heading(name, path)?;
+        let own = self.headings.on_heading(name, path)?;
+        let name = self.known_name(path).unwrap_or(own);
         self.heading = Some(Rc::new(name));
         Ok(())
+    }
+
+    /// Returns the name that is known of the suites of the binary with this path.
+    fn known_name(&self, path: Option<&str>) -> Option<String> {
+        path.and_then(|path| self.names.get(path)).map(String::from)
     }
 
     /// Takes a print.

@@ -108,18 +108,20 @@ impl TestRun {
     }
 
     /// Ends a suite that has its last line.
-    fn end_suite(&mut self, suite: Suite, notes: &mut Vec<Note>) -> Result<(), RunError> {
+    fn end_suite(&mut self, mut suite: Suite, notes: &mut Vec<Note>) -> Result<(), RunError> {
         let left = self.running.take_suite(suite.name.number);
+        suite.cancel = self.cancel;
         suite.end(left, notes)
     }
 
     /// Ends a suite that has no last line.
     pub(crate) fn end_early(
         &mut self,
-        suite: Suite,
+        mut suite: Suite,
         notes: &mut Vec<Note>,
     ) -> Result<(), RunError> {
         let left = self.running.take_suite(suite.name.number);
+        suite.cancel = self.cancel;
         suite.end_early(&self.others, left, notes)
     }
 

@@ -125,6 +125,7 @@ impl TestRun {
             time: details.time,
             ended: Some(self.ended),
             slow,
+            cancel: self.cancel,
         };
         let event = self.others.event_place();
         match place {
@@ -183,6 +184,7 @@ impl TestRun {
             time: details.time,
             ended: Some(self.ended),
             slow,
+            cancel: self.cancel,
         };
         let event = self.others.event_place();
         match self.suite_of(name) {
