@@ -655,16 +655,24 @@ def surroundings():
 # What follows the arguments of `cargo test` that are for cargo.
 HARNESS = "-- -Z unstable-options --format json --report-time"
 
+# What follows the subcommand of the cargo that builds the tests before.
+BUILDS = "--no-run --message-format json-render-diagnostics"
+
 
 def added_arguments():
-    """Yields the rows of what is added to the arguments of cargo. `cargo` is a shell, and its subcommand is a script
-    that writes its arguments to a file. The variable says that the harness takes unstable options."""
-    script = 'echo "$0 $@ $NEXTEST_EXPERIMENTAL_LIBTEST_JSON" >a; cat red.jsonl'
-    for words, wanted in [
-        ("test", f"test --no-fail-fast {HARNESS}"),
-        ("t one", f"t --no-fail-fast one {HARNESS}"),
-        ("bench -p a --no-fail-fast -- two", f"bench -p a --no-fail-fast {HARNESS} two"),
-        ("test -- --format=json --report-time", "test --no-fail-fast -- -Z unstable-options --format=json --report-time"),
+    """Yields the rows of what is added to the arguments of cargo, each time that it is started. `cargo` is a shell, and
+    its subcommand is a script that adds its arguments to a file. The variable says that the harness takes unstable
+    options."""
+    script = 'echo "$0 $@ $NEXTEST_EXPERIMENTAL_LIBTEST_JSON" >>a; cat red.jsonl'
+    for words, *wanted in [
+        ("test", f"test {BUILDS}", f"test --no-fail-fast {HARNESS}"),
+        ("t one", f"t {BUILDS} one", f"t --no-fail-fast one {HARNESS}"),
+        ("bench -p a --no-fail-fast -- two", f"bench {BUILDS} -p a --no-fail-fast",
+         f"bench -p a --no-fail-fast {HARNESS} two"),
+        ("test -- --format=json --report-time", f"test {BUILDS}",
+         "test --no-fail-fast -- -Z unstable-options --format=json --report-time"),
+        ("test --doc", f"test --no-fail-fast --doc {HARNESS}"),
+        ("test --message-format short", f"test --no-fail-fast --message-format short {HARNESS}"),
         ("test -- --format terse", "test -- --format terse"),
         ("test --no-run", "test --no-run"),
         ("test -- --list", "test -- --list"),
@@ -673,10 +681,10 @@ def added_arguments():
         ("nextest list", "nextest list"),
         ("build test", "build test"),
     ]:
-        wanted = wanted if wanted.endswith(" 1") else wanted + " "
+        lines = [line if line.endswith(" 1") else line + " " for line in wanted]
         yield command(["./cargo", *words.split()], 1, RED_TEXT, links={"cargo": "/bin/sh"},
                       files={words.split()[0]: script}, variables={"RUSTC_BOOTSTRAP": "1"},
-                      after={"a": wanted + "\n", "cargo": "-> /bin/sh"})
+                      after={"a": "".join(line + "\n" for line in lines), "cargo": "-> /bin/sh"})
 
 
 def rows():

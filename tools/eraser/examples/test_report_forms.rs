@@ -9,7 +9,7 @@ fn text_of_note(note: &Note, options: Options) -> String {
     let entry = Entry::of(note);
     let mut form = TextForm::new(options);
     let mut text = String::new();
-    form.on_entry(&entry, &mut text);
+    form.on_entry(&entry, &mut text, &mut String::new());
     text
 }
 
