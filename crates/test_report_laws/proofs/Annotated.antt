@@ -1,7 +1,7 @@
 -- The form for people with annotations.
-use Rattle.std.proofs.Common.{◌≡◌, ◌∙◌, ap, append-nil, append_assoc, false, List, [], ◌∷◌, ◌++◌, ℕ, refl, sym}
+use Rattle.std.proofs.Common.{◌≡◌, ◌∙◌, ap, append-nil, append_assoc, false, List, [], ◌∷◌, ◌++◌, ℕ, map, sym}
 use Rattle.std.proofs.lemmas.List.Elements.{All-cons, All-head, All-nil, All-tail}
-use Rattle.std.specs.List.{All, AllZip, flat_map, slice_split}
+use Rattle.std.specs.List.{All, flat_map, slice_split}
 use Rattle.test_report_forms.specs.Entry.{EntryView}
 use Rattle.test_report_forms.specs.Github.{github_last, github_line}
 use Rattle.test_report_forms.specs.Text.{text_last, text_line}
@@ -16,7 +16,7 @@ use Rattle.test_report_laws.proofs.QuietText.{each, lines-have-none, text-end, t
 use Rattle.test_report_laws.specs.Commands.{AnnotatedHasOwnCommands, AreCommands, AreOfNotes, IsPart, annotated_line, is_line_end}
 use Rattle.test_report_laws.specs.Forms.{AnnotatedHasNoControls}
 
--- a text without commands, and the commands behind it
+-- a text without commands, and the commands after it
 abbrev Part : Type 0
 Part = List ℕ × List ℕ
 
@@ -33,8 +33,7 @@ module _ (o a : Options) where
 
   -- the parts of lines
   abbrev parts : List (List EntryView) → List Part
-  parts [] = []
-  parts (line ∷ lines) = part line ∷ parts lines
+  parts entries = map part entries
 
   are-own : o.raw ≡ false → (entries : List (List EntryView)) (last : Part) → All AreOfNotes entries → IsPart last → All IsPart (parts entries ++ last ∷ [])
   are-own raw [] last of_notes own = All-cons IsPart last [] own (All-nil IsPart)
@@ -44,10 +43,6 @@ module _ (o a : Options) where
         whole-commands (flat_map (github_line a) line) (all-commands a line (All-head AreOfNotes line lines of_notes)),
       )
       (are-own raw lines last (All-tail AreOfNotes line lines of_notes) own)
-
-  are-parts : (entries : List (List EntryView)) → AllZip (λ line (p : Part). annotated_line o a line ≡ p.0 ++ p.1) entries (parts entries)
-  are-parts [] = tt
-  are-parts (line ∷ lines) = (refl, are-parts lines)
 
   are-text : (entries : List (List EntryView)) (last : Part)
       → flat_map (annotated_line o a) entries ++ (last.0 ++ last.1) ≡ flat_map whole (parts entries ++ last ∷ [])
@@ -60,13 +55,8 @@ pub annotated-has-own-commands : AnnotatedHasOwnCommands
 annotated-has-own-commands o a entries end raw of_notes =
     let all = all_entries entries in
     let last : Part = (text_last o all end, github_last end) in
-    let own : IsPart last = (lines-have-none (text_last o all end) (text-end o raw all end), whole-commands (github_last end) (end-commands end)) in (
-      parts o a entries,
-      last,
-      are-own o a raw entries last of_notes own,
-      are-parts o a entries,
-      are-text o a entries last,
-    )
+    let own : IsPart last = (lines-have-none (text_last o all end) (text-end o raw all end), whole-commands (github_last end) (end-commands end)) in
+    (are-own o a raw entries last of_notes own, are-text o a entries last)
 
 clean-texts : (o : Options) (line : List EntryView) → o.raw ≡ false → o.color ≡ false → Clean (flat_map (text_line o) line)
 clean-texts o [] raw color = nothing

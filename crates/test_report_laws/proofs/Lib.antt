@@ -57,6 +57,7 @@ pub mod StatusLines
 pub mod Sums
 pub mod Tallies
 pub mod TextLines
+pub mod TextReasons
 pub mod ToldFailures
 pub mod Types
 pub mod Uncancelled

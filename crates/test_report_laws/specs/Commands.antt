@@ -1,6 +1,6 @@
 -- The commands of CI systems in a log: those that the form for GitHub writes, and those that no other form has.
-use Rattle.std.specs.Prelude.{◌≡◌, ◌==◌, ◌||◌, ◌++◌, ℕ, Bool, false, List, [], ◌∷◌, codes, nat_eq}
-use Rattle.std.specs.List.{All, AllZip, Contains, flat_map, join_with_byte, slice_split, starts_with}
+use Rattle.std.specs.Prelude.{◌≡◌, ◌==◌, ◌||◌, ◌++◌, ℕ, Bool, false, List, [], ◌∷◌, codes, map, nat_eq}
+use Rattle.std.specs.List.{All, Contains, flat_map, join_with_byte, slice_split, starts_with}
 use Rattle.std.specs.Str.{NoCharPasses, chars, skip_leading_whitespace}
 use Rattle.template.specs.Shows.{HasPart}
 use Rattle.test_report_engine.specs.Report.{all_entries}
@@ -97,13 +97,18 @@ AreOfNotes entries = All (λ e. (n : NoteView) × IsEntryOf n e) entries
 abbrev pub IsPart : List ℕ × List ℕ → Type 0
 IsPart p = HasNoCommands p.0 × AreCommands p.1
 
--- If `raw` is false, the form for people with annotations writes parts: one of each line of the input, and one of the end. Each is a text without commands,
--- and whole commands after it, if there are any.
+-- the parts of such a text: of each line of the input the texts of its entries and their commands, and then the same of the end
+abbrev pub annotated_parts : Options → Options → List (List EntryView) → RunEnd → List (List ℕ × List ℕ)
+annotated_parts o a entries end =
+    map (λ line. (flat_map (text_line o) line, flat_map (github_line a) line)) entries
+    ++ (text_last o (all_entries entries) end, github_last end) ∷ []
+
+-- If `raw` is false, the form for people with annotations writes these parts. Each is a text without commands, and whole commands after it, if there are
+-- any.
 abbrev pub AnnotatedHasOwnCommands : Type 0
 AnnotatedHasOwnCommands = (o a : Options) (entries : List (List EntryView)) (end : RunEnd) → o.raw ≡ false → All AreOfNotes entries
-    → (parts : List (List ℕ × List ℕ)) × (last : List ℕ × List ℕ) × All IsPart (parts ++ last ∷ [])
-    × AllZip (λ line p. annotated_line o a line ≡ p.0 ++ p.1) entries parts
-    × (annotated_of_run o a entries end ≡ flat_map (λ p. p.0 ++ p.1) (parts ++ last ∷ []))
+    → All IsPart (annotated_parts o a entries end)
+    × (annotated_of_run o a entries end ≡ flat_map (λ p. p.0 ++ p.1) (annotated_parts o a entries end))
 
 -- What the form of names writes has no command.
 abbrev pub NamesHasNoCommands : Type 0
