@@ -199,8 +199,8 @@ impl<F: Form + Drop> Report<F> {
     }
 
     /// Notes that the output of a command is read next. Call it before the first piece of the output, and
-    /// `end_command` after the last one. The suites after a heading have the name in `names` of the path in the
-    /// heading, if there is one.
+    /// `end_command` after the last one. If `names` has a name for the path in a heading, the suites after the
+    /// heading have this name.
     #[tactic(auto, using(crate::proofs::Reports::starts_command))]
     pub fn start_command(&mut self, names: SuiteNames)
         ensures starts { reading.StartsCommand (lines F.line F.line_end) F.last F.Knows (names_of names)

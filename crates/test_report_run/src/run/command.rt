@@ -16,8 +16,8 @@ use std::alloc::{AllocError, Global};
 
 impl TestRun {
     /// Notes that the next lines, up to the next call of `end_file`, are the output of a command. Failures that cargo
-    /// reports in them wait for the end of the command: if it ended with status 0, they were prints. The suites after
-    /// a heading have the name in `names` of the path in the heading, if there is one.
+    /// reports in them wait for the end of the command: if it ended with status 0, they were prints. If `names` has a
+    /// name for the path in a heading, the suites after the heading have this name.
     pub fn on_command_started(&mut self, names: SuiteNames)
         ensures takes { run_state self.new ≡ spec.after (run_state self.old) (CommandStarts (names_of names)) }
     {

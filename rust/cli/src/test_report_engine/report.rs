@@ -111,8 +111,8 @@ impl<F: Form> Report<F> {
     }
 
     /// Notes that the output of a command is read next. Call it before the first piece of the output, and
-    /// `end_command` after the last one. The suites after a heading have the name in `names` of the path in the
-    /// heading, if there is one.
+    /// `end_command` after the last one. If `names` has a name for the path in a heading, the suites after the
+    /// heading have this name.
     pub fn start_command(&mut self, names: SuiteNames) {
         self.run.on_command_started(names);
     }
