@@ -1,5 +1,5 @@
 -- Objects and lists of JSON as text, and the marks of commands in it.
-use Rattle.std.proofs.Common.{◌≡◌, ◌∙◌, refl, sym, ap, ℕ, suc, ◌+◌, ◌<◌, ◌==◌, ◌||◌, Bool, Bor, Option, Some, None, unwrap_or, true, false, cond, not, arith, List, [], ◌∷◌, ◌++◌, map, length, take, drop, if◌then◌else◌, append_assoc, append-nil}
+use Rattle.std.proofs.Common.{◌≡◌, ◌∙◌, refl, sym, ap, ℕ, suc, ◌+◌, ◌<◌, ◌==◌, ◌||◌, Bool, Bor, Option, Some, None, unwrap_or, true, false, cond, not, arith, List, [], ◌∷◌, ◌++◌, map, length, take, drop, if◌then◌else◌, append_assoc, append-nil, codes}
 use Rattle.std.proofs.lemmas.Bool.{eqb-true}
 use Rattle.std.proofs.lemmas.Bool.Decides.{nat_tests}
 use Rattle.std.specs.Option.{MatchOption}
@@ -102,6 +102,11 @@ more_one ms name j before value is same =
 pub string_text : (t : List ℕ) → json_text (string t) ≡ quoted t
 unfolding json_text print_from
 string_text t = append-nil (quoted t)
+
+pub boolean_text : (b : Bool) → json_text (boolean b) ≡ (if b then codes "true" else codes "false")
+unfolding json_text print_from
+boolean_text true = refl
+boolean_text false = refl
 
 pub number_text : (t : List ℕ) → json_text (number t) ≡ t
 unfolding json_text print_from

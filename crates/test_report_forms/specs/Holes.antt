@@ -18,10 +18,10 @@ pub record HoleView : Type 0 where
 abbrev pub holes : Hole → List (List ℕ) → List (List ℕ) → List HoleView
 holes kind path names = map (λ name. record { kind = kind; path = path; name = name }) names
 
--- the holes for the outcome, the numbers and the time of a run
-abbrev pub run_holes : Hole → List HoleView
-run_holes kind =
-    holes kind [] (codes "outcome" ∷ codes "finished" ∷ codes "passed" ∷ codes "flaky" ∷ codes "failed" ∷ codes "timed_out" ∷ codes "crashed"
+-- the holes for the numbers and the time of a run
+abbrev pub number_holes : Hole → List HoleView
+number_holes kind =
+    holes kind [] (codes "finished" ∷ codes "passed" ∷ codes "flaky" ∷ codes "failed" ∷ codes "timed_out" ∷ codes "crashed"
     ∷ codes "skipped" ∷ codes "not_run" ∷ [])
     ++ (holes kind (codes "slow" ∷ []) (codes "count" ∷ []) ++ holes kind (codes "time" ∷ []) (codes "seconds" ∷ []))
 

@@ -10,7 +10,7 @@ use Rattle.template.specs.Sections.{first_section, sections}
 use Rattle.template.specs.Template.{Parts, Values, parts_text, values_of}
 use Rattle.template.specs.declared.hole.Hole.TheVariants as hole
 use Rattle.test_report_forms.specs.Entry.{EntryView}
-use Rattle.test_report_forms.specs.Holes.{HoleView, PhraseView, has_hole, holes, output_holes, phrase_text, phrases, problem_holes, run_holes, shows_phrase}
+use Rattle.test_report_forms.specs.Holes.{HoleView, PhraseView, has_hole, holes, number_holes, output_holes, phrase_text, phrases, problem_holes, shows_phrase}
 use Rattle.test_report_forms.specs.Model.{FailedView, ProblemView, RowView}
 use Rattle.test_report_forms.specs.Skipped.{SkippedView}
 use Rattle.test_report_forms.specs.Values.{failed_values, problem_values, skip_values, suite_values, values_of_run}
@@ -53,15 +53,16 @@ suite_holes path =
 -- the holes that the page has: one for each value of a report, except the short reasons
 abbrev pub page_holes : List HoleView
 page_holes =
-    run_holes hole.Text
+    holes hole.Text [] (codes "outcome" ∷ [])
     ++ (holes hole.Attribute [] (codes "outcome" ∷ [])
+    ++ (number_holes hole.Text
     ++ (bar_holes []
     ++ (problem_holes hole.Text (codes "problems" ∷ codes "problem" ∷ [])
     ++ (failed_holes (codes "failures" ∷ codes "failed" ∷ [])
     ++ (suite_holes (codes "suites" ∷ codes "suite" ∷ [])
     ++ (holes hole.Text (codes "slowest" ∷ codes "slow" ∷ []) (codes "name" ∷ codes "share" ∷ codes "seconds" ∷ [])
     ++ (holes hole.Attribute (codes "slowest" ∷ codes "slow" ∷ []) (codes "share" ∷ [])
-    ++ holes hole.Text (codes "skips" ∷ codes "skip" ∷ []) (codes "name" ∷ codes "reason" ∷ []))))))))
+    ++ holes hole.Text (codes "skips" ∷ codes "skip" ∷ []) (codes "name" ∷ codes "reason" ∷ [])))))))))
 
 -- the heading, with the outcome
 abbrev pub heading_phrase : List ℕ
@@ -133,21 +134,26 @@ slow_columns = codes "<th scope=\"col\">Test</th><th scope=\"col\">Share of the 
 abbrev pub skip_columns : List ℕ
 skip_columns = codes "<th scope=\"col\">Test</th><th scope=\"col\">Reason</th>"
 
+-- the heading of a section and the columns of its table
+abbrev pub table_phrase : List ℕ → List ℕ → List ℕ
+table_phrase title columns = codes "<section>\n<h2>" ++ (title ++ (codes "</h2>\n<table>\n<thead><tr>" ++ (columns ++ codes "</tr></thead>\n")))
+
 -- the phrases of the page
 abbrev pub page_phrases : List PhraseView
 page_phrases =
-    phrases [] (heading_phrase ∷ summary_phrase ∷ (bar_phrase ++ codes "\n{{/bar}}") ∷ suite_columns ∷ [])
+    phrases [] (heading_phrase ∷ summary_phrase ∷ (bar_phrase ++ codes "\n{{/bar}}") ∷ [])
     ++ (phrases (codes "problems" ∷ []) (codes "<h2>Problems of the run</h2>\n" ∷ [])
     ++ (phrases (codes "problems" ∷ codes "problem" ∷ []) (problem_phrase ∷ [])
     ++ (phrases (codes "failures" ∷ []) (codes "<h2>Failed tests</h2>\n" ∷ [])
     ++ (phrases (codes "failures" ∷ codes "failed" ∷ []) (title_phrase ∷ reason_phrase ∷ [])
     ++ (phrases (codes "failures" ∷ codes "failed" ∷ codes "note" ∷ [])
     (codes "{{#attempts}} ({{count}} attempts){{/attempts}}{{#time}} {{seconds}}s{{/time}}" ∷ [])
+    ++ (phrases (codes "suites" ∷ []) (table_phrase (codes "Suites") suite_columns ∷ [])
     ++ (phrases (codes "suites" ∷ codes "suite" ∷ []) (suite_phrase ∷ [])
-    ++ (phrases (codes "slowest" ∷ []) (slow_columns ∷ [])
+    ++ (phrases (codes "slowest" ∷ []) (table_phrase (codes "Slowest tests") slow_columns ∷ [])
     ++ (phrases (codes "slowest" ∷ codes "slow" ∷ []) (slow_phrase ∷ [])
-    ++ (phrases (codes "skips" ∷ []) (skip_columns ∷ [])
-    ++ phrases (codes "skips" ∷ codes "skip" ∷ []) (skip_phrase ∷ []))))))))))
+    ++ (phrases (codes "skips" ∷ []) (table_phrase (codes "Skipped tests") skip_columns ∷ [])
+    ++ phrases (codes "skips" ∷ codes "skip" ∷ []) (skip_phrase ∷ [])))))))))))
 
 -- the heading of the page with this word for the outcome
 abbrev pub page_heading : List ℕ → List ℕ

@@ -5,8 +5,9 @@ use Rattle.std.specs.Option.{option_map_or}
 use Rattle.json.specs.Json.{Json}
 use Rattle.test_report_forms.specs.Entry.{EntryView, FlakyPassed, LinesDisagree, SuiteNotRun, SuiteOver, TestFailed, TestPassed, TestSkipped}
 use Rattle.test_report_forms.specs.JsonText.{hidden, json_text}
-use Rattle.test_report_forms.specs.JsonValues.{failed_json, open_suite_json, problem_json, report_json, suite_json, test_json}
+use Rattle.test_report_forms.specs.JsonValues.{failed_json, open_suite_json, passed_json, problem_json, report_json, skipped_json, suite_json}
 use Rattle.test_report_forms.specs.Model.{CauseView, cause_of_entry}
+use Rattle.test_report_forms.specs.Skipped.{skip_reason}
 use Rattle.test_report_forms.specs.Suites.{SuiteOf, added_to, map_cases, open_of, suite_over, without_first}
 use Rattle.test_report_forms.specs.declared.json_form.JsonForm.{JsonForm}
 use Rattle.test_report_run.specs.Note.{SuiteNoteView}
@@ -45,9 +46,9 @@ end_suite j s = option_map_or (close j s) (suite_over s.name j.suites) (record j
 
 -- what an entry adds
 unfoldable pub json_entry : Options → JsonState → EntryView → JsonState
-json_entry o j (TestPassed t) = add_test j t.suite (test_json t (codes "passed"))
+json_entry o j (TestPassed t) = add_test j t.suite (passed_json t)
 json_entry o j (FlakyPassed t) = j
-json_entry o j (TestSkipped t) = add_test j t.suite (test_json t (codes "skipped"))
+json_entry o j (TestSkipped t) = add_test j t.suite (skipped_json t (skip_reason t.outcome))
 json_entry o j (TestFailed t f w) = add_test j t.suite (failed_json t f w o)
 json_entry o j (LinesDisagree d why) = on_cause j (LinesDisagree d why)
 json_entry o j (SuiteNotRun suite n of) = on_cause j (SuiteNotRun suite n of)

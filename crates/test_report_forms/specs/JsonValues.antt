@@ -1,7 +1,7 @@
 -- The values of the report in JSON. Each definition lists the members of an object by their names.
-use Rattle.std.specs.Prelude.{◌-◌, ◌++◌, ◌∷◌, [], ℕ, List, codes, if◌then◌else◌, map, Option, option_to_list}
+use Rattle.std.specs.Prelude.{◌-◌, ◌++◌, ◌∷◌, [], ℕ, Bool, List, codes, if◌then◌else◌, map, Option, option_to_list}
 use Rattle.std.specs.Fmt.{decimal}
-use Rattle.json.specs.Json.{Json, number, string}
+use Rattle.json.specs.Json.{Json, boolean, number, string}
 use Rattle.run_events_stats.specs.declared.stats.RunStats.{RunStats}
 use Rattle.test_report_forms.specs.JsonText.{Member, list_of, object_of}
 use Rattle.test_report_forms.specs.Model.{CauseView, no_tests_ran}
@@ -23,6 +23,10 @@ text_member name text = (name, string text) ∷ []
 -- a member that is a number
 abbrev pub number_member : List ℕ → ℕ → List Member
 number_member name n = (name, number (decimal n)) ∷ []
+
+-- a member that is true or false
+abbrev pub flag_member : List ℕ → Bool → List Member
+flag_member name b = (name, boolean b) ∷ []
 
 -- a member that is a list
 abbrev pub list_member : List ℕ → List Json → List Member
@@ -68,12 +72,16 @@ cut w limit = front w.text limit ++ (more_note (more_bytes w.text limit) ++ hidd
 -- the members of each test
 unfoldable pub test_members : TestNoteView → List ℕ → List Member
 test_members t result =
-    (((text_member (codes "name") (title_name t) ++ text_member (codes "written_name") t.name) ++ text_member (codes "result") result)
-    ++ number_member (codes "attempts") t.attempts) ++ time_member t.time
+    ((((text_member (codes "name") (title_name t) ++ text_member (codes "written_name") t.name) ++ text_member (codes "result") result)
+    ++ number_member (codes "attempts") t.attempts) ++ flag_member (codes "slow") t.slow) ++ time_member t.time
 
--- a test that did not fail, with this result
-unfoldable pub test_json : TestNoteView → List ℕ → Json
-test_json t result = object_of (test_members t result)
+-- a test that passed
+unfoldable pub passed_json : TestNoteView → Json
+passed_json t = object_of (test_members t (codes "passed"))
+
+-- a test that was skipped, for a reason or for none
+unfoldable pub skipped_json : TestNoteView → Option (List ℕ) → Json
+skipped_json t reason = object_of (test_members t (codes "skipped") ++ option_member (codes "reason") reason)
 
 -- a test that failed, with all of its output
 unfoldable pub failed_json : TestNoteView → FailureView → WhyView → Options → Json

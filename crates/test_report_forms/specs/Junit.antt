@@ -70,7 +70,7 @@ junit_state options entries = fold (junit_entry options) junit_start entries
 
 -- the test case that says that no test ran
 abbrev pub no_tests_case : CaseView
-no_tests_case = problem_case (codes "no test ran") (codes "no tests") []
+no_tests_case = problem_case (codes "no test ran") (codes "no tests") None
 
 -- the test cases of causes that name no suite, with one more if no test ran
 abbrev pub own_cases : Bool → List CaseView → List CaseView

@@ -1,5 +1,5 @@
 -- The test cases of JUnit's XML.
-use Rattle.std.specs.Prelude.{◌-◌, ◌==◌, [], ℕ, Bool, true, false, not, if◌then◌else◌, List, codes, map, min, Option, None, option_map, string_bytes, unwrap_or}
+use Rattle.std.specs.Prelude.{◌-◌, ◌==◌, ℕ, Bool, true, false, not, if◌then◌else◌, List, codes, map, min, Option, None, option_map, string_bytes, unwrap_or}
 use Rattle.test_report_forms.specs.Model.{CauseView, FailedView, shown_failure_of, shown_reason, suite_name}
 use Rattle.test_report_forms.specs.Shown.{shown_line, shown_name, whole_text}
 use Rattle.test_report_forms.specs.Skipped.{skip_reason}
@@ -134,17 +134,17 @@ failed_case t f w o = test_case t (option_map shown_place w.place) (FailedCase (
 abbrev pub own_name : List ℕ
 own_name = codes "test-report"
 
--- why the run has a problem: this line, and what explains it
-abbrev pub problem_reason : List ℕ → List ℕ → List ℕ → ReasonView
-problem_reason line type_of why = record { is_error = true; message = line; type_of = type_of; why = why; output = None }
+-- why the run has a problem: this line, and what explains it or, if nothing does, the line again, because some readers show only that text
+abbrev pub problem_reason : List ℕ → List ℕ → Option (List ℕ) → ReasonView
+problem_reason line type_of why = record { is_error = true; message = line; type_of = type_of; why = unwrap_or why line; output = None }
 
 -- the test case of a problem of the run: its line is the name and the message
-abbrev pub problem_case : List ℕ → List ℕ → List ℕ → CaseView
+abbrev pub problem_case : List ℕ → List ℕ → Option (List ℕ) → CaseView
 problem_case line type_of why = record { name = line; class = own_name; time = None; place = None; kind = FailedCase (problem_reason line type_of why) }
 
 -- the test case of a cause
 abbrev pub case_of_cause : CauseView → CaseView
-case_of_cause c = problem_case c.line c.kind (unwrap_or (shown_reason c.why) [])
+case_of_cause c = problem_case c.line c.kind (shown_reason c.why)
 
 -- a test case has a failure
 abbrev pub has_failure : CaseView → Bool

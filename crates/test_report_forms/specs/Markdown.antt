@@ -2,19 +2,20 @@
 use Rattle.std.specs.Prelude.{◌≡◌, ◌==◌, ◌+◌, ◌-◌, ◌++◌, ◌∷◌, [], ℕ, true, List, codes, if◌then◌else◌, length, slice_get, unwrap_or}
 use Rattle.std.specs.Fmt.{decimal}
 use Rattle.std.specs.List.{list_all}
+use Rattle.run_events_stats.specs.declared.outcome.run_outcome.RunOutcome.{RunOutcome}
 use Rattle.template.specs.Clean.{is_clean}
-use Rattle.template.specs.Hole.{hole_text}
 use Rattle.template.specs.Marks.{is_markdown}
 use Rattle.template.specs.Parse.{template_parts}
 use Rattle.template.specs.Sections.{sections}
-use Rattle.template.specs.Template.{ItemValue, NoParts, Parts, ValueView, Values, parts_text, section, values_of}
+use Rattle.template.specs.Template.{ItemValue, NoParts, NoValues, Parts, ValueView, Values, parts_text, section, values_of}
 use Rattle.template.specs.declared.hole.Hole.TheVariants as hole
 use Rattle.test_report_forms.specs.Entry.{EntryView}
-use Rattle.test_report_forms.specs.Holes.{HoleView, PhraseView, has_hole, holes, output_holes, phrases, problem_holes, run_holes, shows_phrase}
-use Rattle.test_report_forms.specs.Model.{FailedView, ReportView, report_of}
+use Rattle.test_report_forms.specs.Holes.{HoleView, PhraseView, has_hole, holes, number_holes, output_holes, phrases, problem_holes, shows_phrase}
+use Rattle.test_report_forms.specs.Model.{FailedView, ReportView, no_tests_ran, report_of}
 use Rattle.test_report_forms.specs.Values.{failed_items, failed_values, one_text, problem_items, run_values}
 use Rattle.test_report_forms.specs.declared.markdown_template.TheConstants.{FAILED, MARKDOWN}
 use Rattle.test_report_forms.specs.WholeOutput.{summary_limits}
+use Rattle.test_report_forms.specs.Words.{outcome_word}
 use Rattle.test_report_run.specs.declared.note.RunEnd.{RunEnd}
 use Rattle.test_report_forms.specs.declared.options.Options.{Options}
 
@@ -51,11 +52,18 @@ more_tests ts = length ts - length (shown_tests ts)
 abbrev pub more_item : ℕ → List ValueView
 more_item n = if n == 0 then [] else ItemValue (codes "more") (values_of (one_text (codes "count") (decimal n))) ∷ []
 
+-- the word for the outcome, or an item without values if no test ran: the template has that word, since it has hyphens
+abbrev pub outcome_item : RunOutcome → List ValueView
+outcome_item o =
+    if no_tests_ran o
+    then ItemValue (codes "no_tests") NoValues ∷ []
+    else ItemValue (codes "ran") (values_of (one_text (codes "outcome") (outcome_word o))) ∷ []
+
 -- the values of a finished report for its summary
 abbrev pub summary_values : ReportView → List ValueView
 summary_values r =
-    ((run_values r.end ++ section (codes "problems") (problem_items r.problems)) ++ section (codes "failures") (failed_items (shown_tests r.failed)))
-    ++ more_item (more_tests r.failed)
+    (((run_values r.end ++ section (codes "problems") (problem_items r.problems)) ++ section (codes "failures") (failed_items (shown_tests r.failed)))
+    ++ more_item (more_tests r.failed)) ++ outcome_item r.end.outcome
 
 -- the values of a run with these entries for its summary
 abbrev pub summary_of_run : Options → List EntryView → RunEnd → Values
@@ -103,13 +111,14 @@ details_holes path =
 -- the holes that the summary has
 abbrev pub markdown_holes : List HoleView
 markdown_holes =
-    run_holes hole.Plain ++ (problem_holes hole.Plain (codes "problems" ∷ codes "problem" ∷ [])
+    holes hole.Plain (codes "ran" ∷ []) (codes "outcome" ∷ []) ++ (number_holes hole.Plain
+    ++ (problem_holes hole.Plain (codes "problems" ∷ codes "problem" ∷ [])
     ++ (row_holes (codes "failures" ∷ codes "failed" ∷ []) ++ (details_holes (codes "failures" ∷ codes "failed" ∷ [])
-    ++ holes hole.Plain (codes "more" ∷ []) (codes "count" ∷ []))))
+    ++ holes hole.Plain (codes "more" ∷ []) (codes "count" ∷ [])))))
 
 -- the heading, with the outcome
 abbrev pub heading_phrase : List ℕ
-heading_phrase = codes "## Test report: {{*outcome}}\n\n"
+heading_phrase = codes "## Test report: {{#ran}}{{*outcome}}{{/ran}}{{#no_tests}}no-tests-run{{/no_tests}}\n\n"
 
 -- how many tests were slow, if some were
 abbrev pub slow_number_phrase : List ℕ
@@ -182,7 +191,7 @@ more_text n = codes "(" ++ (decimal n ++ codes " more failed tests: a summary on
 
 -- the heading of the summary with this word for the outcome
 abbrev pub markdown_heading : List ℕ → List ℕ
-markdown_heading word = codes "## Test report: " ++ (hole_text hole.Plain word ++ codes "\n\n")
+markdown_heading word = codes "## Test report: " ++ (word ++ codes "\n\n")
 
 -- In the template of the summary no value is a mark of Markdown. It has no control characters, and it has all holes and phrases: the holes of a failed
 -- test are in the section of its row and in that of its details. Together these are the template of one failed test.

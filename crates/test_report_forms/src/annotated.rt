@@ -52,10 +52,10 @@ impl Form for AnnotatedForm {
         alloc: Global,
         entry: &Entry<'_>,
         text: &mut String,
-        behind: &mut String,
+        after_line: &mut String,
     ) -> Result<(), AllocError> {
-        self.text.on_entry(alloc, entry, text, behind)?;
-        self.github.on_entry(alloc, entry, behind, text)
+        self.text.on_entry(alloc, entry, text, after_line)?;
+        self.github.on_entry(alloc, entry, after_line, text)
     }
 
     fn on_end(&mut self, alloc: Global, end: &RunEnd, text: &mut String) -> Result<(), AllocError> {

@@ -24,19 +24,19 @@ pub trait Form {
     ghost Knows: { Self → List EntryView → Type 0 };
 
     /// Takes the next entry, and appends its text. Text that belongs after the texts of all entries of the same
-    /// line of the input goes to `behind`. The only error is that memory runs out. After an error nothing is
-    /// promised about the form, the text and `behind`.
+    /// line of the input goes to `after_line`. The only error is that memory runs out. After an error nothing is
+    /// promised about the form, the text and `after_line`.
     fn on_entry(
         &mut self,
         alloc: Global,
         entry: &Entry<'_>,
         text: &mut String,
-        behind: &mut String,
+        after_line: &mut String,
     ) -> Result<(), AllocError>
         ensures writes { OnOk result (string_bytes text.new
             ≡ string_bytes text.old ++ line self.old (entry_view entry.now)) }
-        ensures behind { OnOk result (string_bytes behind.new
-            ≡ string_bytes behind.old ++ line_end self.old (entry_view entry.now)) }
+        ensures after_line { OnOk result (string_bytes after_line.new
+            ≡ string_bytes after_line.old ++ line_end self.old (entry_view entry.now)) }
         ensures knows { OnOk result ((entries : List EntryView)
             → Knows self.old entries → Knows self.new (entries ++ entry_view entry.now ∷ [])) }
         ensures same_line { OnOk result (line self.new ≡ line self.old) }

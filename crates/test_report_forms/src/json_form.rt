@@ -15,12 +15,14 @@ use crate::commands::is_command;
 use crate::entry::Entry;
 use crate::form::Form;
 use crate::json_values::{
-    failed_json, no_tests_json, open_suite_json, problem_json, report_json, suite_json, test_json,
+    failed_json, no_tests_json, open_suite_json, passed_json, problem_json, report_json,
+    skipped_json, suite_json,
 };
 use crate::model::no_tests_ran;
 use crate::open_suites::OpenSuites;
 use crate::open_suites::name::name_of;
 use crate::options::Options;
+use crate::skipped_test::skip_reason;
 use std::alloc::{AllocError, Global};
 use std::rc::Rc;
 use test_report_run::note::{RunEnd, SuiteNote};
@@ -58,17 +60,13 @@ impl JsonForm {
     {
         match entry {
             Entry::Passed(test) => {
-                self.add(
-                    alloc,
-                    name_of(&test.suite),
-                    test_json(alloc, test, "passed")?,
-                )
+                self.add(alloc, name_of(&test.suite), passed_json(alloc, test)?)
             }
             Entry::Skipped(test) => {
                 self.add(
                     alloc,
                     name_of(&test.suite),
-                    test_json(alloc, test, "skipped")?,
+                    skipped_json(alloc, test, skip_reason(&test.outcome))?,
                 )
             }
             Entry::Failed { test, failure, why } => {

@@ -5,7 +5,7 @@ ghost use Rattle.json.specs.Json.{Json};
 ghost use Rattle.json.specs.Print.{quoted};
 ghost use Rattle.test_report_forms.specs.JsonText as spec;
 ghost use Rattle.test_report_forms.specs.JsonText.{HasMembers, Member, is_plain_name, json_text};
-ghost use Rattle.test_report_forms.specs.JsonValues.{number_member, option_member, text_member, time_member};
+ghost use Rattle.test_report_forms.specs.JsonValues.{flag_member, number_member, option_member, text_member, time_member};
 
 use crate::shown::push_seconds;
 use serde_json::Value;
@@ -91,6 +91,16 @@ impl JsonObject {
         self.name(name)?;
         let members = &mut self.members;
         write!(members, "{number}")
+    }
+
+    /// Adds a member that is true or false.
+    #[tactic(auto, using(crate::proofs::JsonTexts::boolean_text))]
+    pub(crate) fn flag(&mut self, name: &str, flag: bool) -> Result<(), AllocError>
+        requires { is_plain_name name.now ≡ true }
+        ensures { OnOk result ((ms : List Member) → HasMembers self.old ms
+            → HasMembers self.new (ms ++ flag_member name.now flag)) }
+    {
+        self.value(name, if flag { "true" } else { "false" })
     }
 
     /// Adds a time in seconds, if it is known.

@@ -26,12 +26,27 @@ use run_events_stats::stats::RunStats;
 use std::alloc::{AllocError, Global};
 use test_report_run::note::{Failure, FailureKind, RunEnd, SuiteNote, TestNote, failed_count};
 
-/// Returns a test that did not fail, with this result.
-#[tactic(auto, unfolding(crate::specs::JsonValues::test_json))]
-pub(crate) fn test_json(alloc: Global, test: &TestNote, word: &str) -> Result<String, AllocError>
-    ensures { IfOk result (λ text. string_bytes text ≡ json_text (spec.test_json (test_view test.now) word.now)) }
+/// Returns a test that passed.
+#[tactic(auto, unfolding(crate::specs::JsonValues::passed_json))]
+pub(crate) fn passed_json(alloc: Global, test: &TestNote) -> Result<String, AllocError>
+    ensures { IfOk result (λ text. string_bytes text ≡ json_text (spec.passed_json (test_view test.now))) }
 {
-    test_object(alloc, test, word)?.into_json(alloc)
+    test_object(alloc, test, "passed")?.into_json(alloc)
+}
+
+/// Returns a test that was skipped, with the reason if there is one.
+#[tactic(auto, unfolding(crate::specs::JsonValues::skipped_json))]
+pub(crate) fn skipped_json(
+    alloc: Global,
+    test: &TestNote,
+    reason: Option<&str>,
+) -> Result<String, AllocError>
+    ensures { IfOk result (λ text. string_bytes text
+        ≡ json_text (spec.skipped_json (test_view test.now) (option_map (λ t. t.now) reason.entry))) }
+{
+    let mut object = test_object(alloc, test, "skipped")?;
+    object.option(alloc, "reason", reason)?;
+    object.into_json(alloc)
 }
 
 /// Returns a test that failed, with all of its output.
@@ -65,6 +80,7 @@ fn test_object(alloc: Global, test: &TestNote, word: &str) -> Result<JsonObject,
     object.text(alloc, "written_name", test.name.as_str())?;
     object.text(alloc, "result", word)?;
     object.number("attempts", test.attempts as u128)?;
+    object.flag("slow", test.slow)?;
     object.time(test.time)?;
     Ok(object)
 }

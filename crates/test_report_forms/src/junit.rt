@@ -202,7 +202,7 @@ fn with_no_tests(alloc: Global, mut own: Vec<Case>) -> Result<Vec<Case>, AllocEr
         ≡ map case_view own.items ++ (spec.no_tests_case ∷ [])) }
 {
     let line = String::from_str(alloc, NO_TESTS)?;
-    own.push(Case::problem(alloc, line, "no tests", String::new(alloc))?)?;
+    own.push(Case::problem(alloc, line, "no tests", None)?)?;
     Ok(own)
 }
 

@@ -152,19 +152,25 @@ impl Case {
     pub(crate) fn of_cause(alloc: Global, cause: Cause<'_>) -> Result<Case, AllocError>
         ensures { IfOk result (λ c. case_view c ≡ spec.case_of_cause (cause_view cause.entry)) }
     {
-        let why = shown_reason(alloc, cause.why)?.unwrap_or(String::new(alloc));
+        let why = shown_reason(alloc, cause.why)?;
         Case::problem(alloc, cause.line, cause.kind, why)
     }
 
-    /// Returns the test case of a problem of the run. Its line is its name, and `why` explains it.
+    /// Returns the test case of a problem of the run. Its line is its name. Its text is what explains it or, if nothing
+    /// does, the line again, because some readers show only the text of an error.
     pub(crate) fn problem(
         alloc: Global,
         line: String,
         type_of: &'static str,
-        why: String,
+        why: Option<String>,
     ) -> Result<Case, AllocError>
-        ensures { IfOk result (λ c. case_view c ≡ spec.problem_case (string_bytes line) type_of.now (string_bytes why)) }
+        ensures { IfOk result (λ c. case_view c
+            ≡ spec.problem_case (string_bytes line) type_of.now (option_map string_bytes why)) }
     {
+        let why = match why {
+            Some(why) => why,
+            None => String::from_str(alloc, line.as_str())?,
+        };
         let reason = Reason {
             is_error: true,
             message: String::from_str(alloc, line.as_str())?,

@@ -1,7 +1,8 @@
 //! The values of a finished report for the summary of a workflow, which shows only the first of many failed tests.
 //!
 //! They are those of `report_values` for the run, its problems and its failed tests. If there are other failed tests,
-//! `more` has their number, as `count`.
+//! `more` has their number, as `count`. `ran` has the `outcome`; if no test ran, there is an item `no_tests` without
+//! values instead.
 
 ghost use Rattle.std.specs.Prelude.{◌≡◌, ◌++◌, ◌-◌, IfOk, OnOk, length, map};
 ghost use Rattle.template.specs.Template.{parts_text, parts_view, value_view, values_view};
@@ -11,8 +12,10 @@ ghost use Rattle.test_report_forms.specs.Values.{failed_items};
 
 use crate::failed_test::FailedTest;
 use crate::markdown_template::FAILED;
-use crate::model::ReportModel;
-use crate::values::{failed_values, one_text, problem_items, run_values};
+use crate::model::{ReportModel, no_tests_ran};
+use crate::summary::outcome_text;
+use crate::values::{failed_values, one_text, one_word, problem_items, run_values};
+use run_events_stats::outcome::RunOutcome;
 use std::alloc::{AllocError, Global};
 use template::{Part, Value, parse_template, push_item, push_section, render};
 use test_report_run::note::RunEnd;
@@ -50,6 +53,7 @@ pub(crate) fn summary_values(
     )?;
     push_section(&mut values, "failures", shown)?;
     push_more(alloc, &mut values, more)?;
+    push_outcome(alloc, &mut values, end.outcome)?;
     Ok(values)
 }
 
@@ -63,6 +67,24 @@ fn push_more(alloc: Global, values: &mut Vec<Value>, more: usize) -> Result<(), 
     }
     let count = format!(in alloc; "{more}")?;
     push_item(values, "more", one_text(alloc, "count", count)?)
+}
+
+/// Adds the word for the outcome. The template itself has the word for a run in which no test ran: its hyphens would
+/// be references in a value.
+fn push_outcome(
+    alloc: Global,
+    values: &mut Vec<Value>,
+    outcome: RunOutcome,
+) -> Result<(), AllocError>
+    ensures { OnOk result (map value_view values.new.items
+        ≡ map value_view values.old.items ++ spec.outcome_item outcome) }
+{
+    if no_tests_ran(outcome) {
+        push_item(values, "no_tests", Vec::new(alloc))
+    } else {
+        let word = one_word(alloc, "outcome", outcome_text(outcome))?;
+        push_item(values, "ran", word)
+    }
 }
 
 /// Returns the failed tests that the summary shows.

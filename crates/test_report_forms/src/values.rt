@@ -90,7 +90,11 @@ pub(crate) fn one_text(
 }
 
 /// Returns values with one text, which is a word of the report.
-fn one_word(alloc: Global, name: &'static str, word: &'static str) -> Result<Vec<Value>, AllocError>
+pub(crate) fn one_word(
+    alloc: Global,
+    name: &'static str,
+    word: &'static str,
+) -> Result<Vec<Value>, AllocError>
     ensures { IfOk result (λ v. map value_view v.items ≡ spec.one_text name.now word.now) }
 {
     one_text(alloc, name, String::from_str(alloc, word)?)

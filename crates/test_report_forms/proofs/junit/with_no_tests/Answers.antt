@@ -1,4 +1,4 @@
-use Rattle.std.proofs.Common.{◌∙◌, ◌++◌, ◌∷◌, [], ap, codes, map, string_bytes}
+use Rattle.std.proofs.Common.{◌∙◌, ◌++◌, ◌∷◌, [], None, ap, codes, map}
 use Rattle.std.proofs.lemmas.List.{map-append}
 use Rattle.test_report_forms.specs.JunitCase.{case_view, problem_case}
 use Rattle.test_report_forms.proofs.junit.with_no_tests.Goals as goal
@@ -8,5 +8,4 @@ returns c =
     ap (map case_view) c.in_ok-push.ensures.items
     ∙ (map-append case_view c.args.own.items (c.in_ok-problem.field-0 ∷ [])
     ∙ ap (λ v. map case_view c.args.own.items ++ (v ∷ []))
-    (c.in_ok-problem.ensures ∙ (ap (λ line. problem_case line (codes "no tests") (string_bytes c.new.result)) c.in_ok-line.ensures.ok
-    ∙ ap (problem_case (codes "no test ran") (codes "no tests")) c.new.ensures.bytes)))
+    (c.in_ok-problem.ensures ∙ ap (λ line. problem_case line (codes "no tests") None) c.in_ok-line.ensures.ok))

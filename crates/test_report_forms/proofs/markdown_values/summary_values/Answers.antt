@@ -16,6 +16,7 @@ returns c =
     let counted : c.saturating_sub-more.result ≡ length tests - length shown =
     grind (arith, c.saturating_sub-more.ensures, c.len-count.ensures, c.len.ensures) in
     rw (
+      c.in_ok-push_outcome.ensures,
       c.in_ok-push_more.ensures,
       counted ∙ more_count tests shown is,
       c.in_ok-push_section-2.ensures,
