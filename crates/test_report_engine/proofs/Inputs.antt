@@ -14,7 +14,7 @@ use Rattle.test_report_run.specs.declared.note.RunEnd.{RunEnd}
 use Rattle.test_report_run.specs.declared.run.TestRun.{TestRun}
 use Rattle.test_report_engine.specs.Lines.{IsOneLine, events_after, with_feed}
 use Rattle.test_report_engine.specs.Reading.{AppendsLinesStart, LeadsTo, ReadsInput, ReadsLine, ReadsStart, TakesLine, WritesNotes}
-use Rattle.test_report_engine.specs.Report.{after_end, after_line, end_notes, line_notes, notes_of, notes_of_input, run_after, run_after_input, run_of}
+use Rattle.test_report_engine.specs.Report.{after_end, after_line, end_notes, line_notes, notes_of_input, parts, run_after, run_after_input, run_of}
 use Rattle.test_report_engine.specs.declared.report.Report.{Report}
 use Rattle.test_report_engine.proofs.Lines.{divided-at, events-cut, events-line, events-none, feedless-front, joined, one-events, with-feed, without-feed}
 use Rattle.test_report_engine.proofs.Notes.{starts-empty, starts-front, starts-none, starts-then, writes-empty, writes-from, writes-then}
@@ -29,9 +29,9 @@ pub line-takes : (old new : TestRun) (bytes : List ℕ) (events : List EventView
 unfolding run_of line_notes after_line
 line-takes old new bytes events notes says tells takes = record { events = events; says = says; run_is = takes; tells = tells }
 
-end-tells : (run : TestRun) (notes : List NoteView) → notes ≡ file_notes (run_state run) → notes ≡ end_notes (run_of run)
+end-tells : (run : TestRun) (notes : List NoteView) → notes ≡ file_notes (run_state run) → parts notes ≡ end_notes (run_of run)
 unfolding run_of end_notes
-end-tells run notes is = is
+end-tells run notes is = ap parts is
 
 end-runs : (old new : TestRun) → run_state new ≡ after_file (run_state old) → run_of new ≡ after_end (run_of old)
 unfolding run_of after_end
@@ -50,7 +50,7 @@ learns-end old new end is = is
 
 -- what the end of an input makes known, after the end of its command
 pub over-tells : (command : Option CommandView) (old run : TestRun) (notes : List NoteView) → LearnsEnd command old run → notes ≡ file_notes (run_state run)
-    → notes ≡ end_notes (run_after (run_of old) (events_after command))
+    → parts notes ≡ end_notes (run_after (run_of old) (events_after command))
 over-tells command old run notes learns is = end-tells run notes is ∙ ap end_notes learns
 
 -- the end of a command makes nothing known
@@ -60,11 +60,11 @@ over-none r end = refl
 
 -- so what is written of the end of an input is what is written of it and of the end of its command
 starts-over : (command : Option CommandView) (f : List EntryView → List ℕ) (r : RunState) (b w : Option (List ℕ)) → f [] ≡ []
-    → AppendsLinesStart f (end_notes (run_after r (events_after command)) ∷ []) b w → AppendsLinesStart f (notes_of_input r (events_after command)) b w
+    → AppendsLinesStart f (end_notes (run_after r (events_after command))) b w → AppendsLinesStart f (notes_of_input r (events_after command)) b w
 starts-over None f r b w none starts = starts
 starts-over (Some end) f r b w none starts =
-    let ended : List NoteView = end_notes (run_after r (events_after (Some end))) in
-    subst (λ ns. AppendsLinesStart f (ns ∷ (ended ∷ [])) b w) (sym (over-none r end)) (starts-empty f (ended ∷ []) b w none starts)
+    let ended : List (List NoteView) = end_notes (run_after r (events_after (Some end))) in
+    subst (λ ns. AppendsLinesStart f (ns ∷ ended) b w) (sym (over-none r end)) (starts-empty f ended b w none starts)
 
 -- and the run after it
 pub over-runs : (command : Option CommandView) (old run new : TestRun) → LearnsEnd command old run → run_state new ≡ after_file (run_state run)
@@ -104,10 +104,11 @@ line-none f r bytes b e says = starts-none f (line_notes r e ∷ []) b
 
 -- notes of the end of an input, of which a beginning is written
 pub notes-start : (command : Option CommandView) (f : List EntryView → List ℕ) (r : RunState) (slice items : List Note) (b w : Option (List ℕ)) → f [] ≡ []
-    → map note_view items ≡ end_notes (run_after r (events_after command)) → slice ≡ items → AppendsLinesStart f (map note_view slice ∷ []) b w
+    → parts (map note_view items) ≡ end_notes (run_after r (events_after command)) → slice ≡ items → AppendsLinesStart f (parts (map note_view slice)) b w
     → AppendsLinesStart f (notes_of_input r (events_after command)) b w
 notes-start command f r slice items b w none tells same starts =
-    starts-over command f r b w none (subst (λ ns. AppendsLinesStart f (ns ∷ []) b w) (ap (map note_view) same ∙ tells) starts)
+    starts-over command f r b w none
+    (subst (λ ns. AppendsLinesStart f ns b w) (ap (λ ns. parts (map note_view ns)) same ∙ tells) starts)
 
 -- nothing is read of an input
 pub input-none : (command : Option CommandView) {F : Type 0} (line : F → List EntryView → List ℕ) (old : Report F) (input : List ℕ) (b : Option (List ℕ))
@@ -157,19 +158,19 @@ module _ {F : Type 0} (line : F → List EntryView → List ℕ) (last : F → L
 
   -- what was written of the end of an input was written of it and of the end of its command
   writes-over : (command : Option CommandView) (old new : Report F) (r : RunState) (b w : Option (List ℕ)) → line old.form [] ≡ []
-      → WritesNotes line last Knows old new (end_notes (run_after r (events_after command)) ∷ []) b w
+      → WritesNotes line last Knows old new (end_notes (run_after r (events_after command))) b w
       → WritesNotes line last Knows old new (notes_of_input r (events_after command)) b w
   writes-over None old new r b w none writes = writes
   writes-over (Some end) old new r b w none writes =
-      let ended : List NoteView = end_notes (run_after r (events_after (Some end))) in
-      subst (λ ns. WritesNotes line last Knows old new (ns ∷ (ended ∷ [])) b w) (sym (over-none r end))
-      (writes-empty line last Knows old new (ended ∷ []) b w none writes)
+      let ended : List (List NoteView) = end_notes (run_after r (events_after (Some end))) in
+      subst (λ ns. WritesNotes line last Knows old new (ns ∷ ended) b w) (sym (over-none r end))
+      (writes-empty line last Knows old new ended b w none writes)
 
   -- the end of an input whose notes are written
   pub end-read : (command : Option CommandView) (old new : Report F) (run : TestRun) (slice items : List Note) (b w : Option (List ℕ)) → line old.form [] ≡ []
-      → map note_view items ≡ end_notes (run_after (run_of old.run) (events_after command))
+      → parts (map note_view items) ≡ end_notes (run_after (run_of old.run) (events_after command))
       → run_of run ≡ run_after_input (run_of old.run) (events_after command) → slice ≡ items → new.run ≡ run
-      → WritesNotes line last Knows (record { run = run; form = old.form; files = old.files }) new (map note_view slice ∷ []) b w
+      → WritesNotes line last Knows (record { run = run; form = old.form; files = old.files }) new (parts (map note_view slice)) b w
       → ReadsInput line last Knows command old new [] b w
   end-read command old new run slice items b w none tells takes same same_run writes = record {
     events = [];
@@ -177,8 +178,8 @@ module _ {F : Type 0} (line : F → List EntryView → List ℕ) (last : F → L
     run_is = ap run_of same_run ∙ takes;
     writes =
         writes-over command old new (run_of old.run) b w none
-        (subst (λ ns. WritesNotes line last Knows old new (ns ∷ []) b w) (ap (map note_view) same ∙ tells)
-        (writes-from line last Knows old new run (map note_view slice ∷ []) b w writes));
+        (subst (λ ns. WritesNotes line last Knows old new ns b w) (ap (λ ns. parts (map note_view ns)) same ∙ tells)
+        (writes-from line last Knows old new run (parts (map note_view slice)) b w writes));
   }
 
   -- a line, and then the rest

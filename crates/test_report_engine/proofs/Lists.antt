@@ -3,14 +3,14 @@ use Rattle.std.proofs.Common.{◌≡◌, List, [], ◌∷◌, ◌++◌, ap, refl
 use Rattle.std.specs.List.{AllZip}
 
 module _ {A B : Type 0} (R : A → B → Type 0) where
-  -- two lists, each with another list behind it
+  -- two lists, each with another list after it
   pub zip-append : (xs us : List A) (ys vs : List B) → AllZip R xs ys → AllZip R us vs → AllZip R (xs ++ us) (ys ++ vs)
   zip-append [] us [] vs p q = q
   zip-append [] us (y ∷ ys) vs p q = absurd p
   zip-append (x ∷ xs) us [] vs p q = absurd p
   zip-append (x ∷ xs) us (y ∷ ys) vs p q = (p.0, zip-append xs us ys vs p.1 q)
 
-  -- what stands beside two lists, of which one stands behind the other
+  -- the list that is paired with two lists, one after the other
   pub record Beside (xs us : List A) (zs : List B) : Type 0 where
     pub front : List B
     pub back : List B
@@ -34,5 +34,5 @@ module _ {A B : Type 0} (R : A → B → Type 0) where
   zip-one one (x ∷ xs) (y ∷ ys) [] p q = absurd q
   zip-one one (x ∷ xs) (y ∷ ys) (z ∷ zs) p q =
       let here : y ≡ z = one x y z p.0 q.0 in
-      let behind : ys ≡ zs = zip-one one xs ys zs p.1 q.1 in
+      let more : ys ≡ zs = zip-one one xs ys zs p.1 q.1 in
       cc

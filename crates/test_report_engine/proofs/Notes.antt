@@ -124,6 +124,11 @@ module _ {F : Type 0} (line : F → List EntryView → List ℕ) (last : F → L
     p.2,
   )
 
+  -- no notes, of which nothing was written
+  pub writes-none : (old : Report F) (b : Option (List ℕ)) → WritesNotes line last Knows old old [] b b
+  writes-none old b =
+      ([], record { entries = []; are = tt; is = refl; form = form-none old.form; files = files-none old.files }, Appends-nil b)
+
   pub writes-then : (old mid new : Report F) (ns ms : List (List NoteView)) (b m w : Option (List ℕ)) → WritesNotes line last Knows old mid ns b m
       → WritesNotes line last Knows mid new ms m w → WritesNotes line last Knows old new (ns ++ ms) b w
   writes-then old mid new ns ms b m w p q =
@@ -170,24 +175,24 @@ module _ {F : Type 0} (line line_end : F → EntryView → List ℕ) (last : F �
     pub last_is : last new ≡ last old
 
   -- a report took these notes of a line. These are the texts of their entries, and what is written after these texts
-  pub record TakesSome (old new : Report F) (notes : List NoteView) (text behind : List ℕ) : Type 0 where
+  pub record TakesSome (old new : Report F) (notes : List NoteView) (text after_line : List ℕ) : Type 0 where
     pub entries : List EntryView
     pub are : AllZip IsEntryOf notes entries
     pub is : text ≡ flat_map (line old.form) entries
-    pub behind_is : behind ≡ flat_map (line_end old.form) entries
+    pub after_line_is : after_line ≡ flat_map (line_end old.form) entries
     pub form : FormTakes (lines line line_end) last Knows old.form new.form entries
     pub line_is : line new.form ≡ line old.form
     pub line_end_is : line_end new.form ≡ line_end old.form
     pub files : FilesTake old.files new.files entries
 
   -- no notes yet
-  pub takes-start : (old : Report F) (notes : List Note) (text behind : List ℕ) → text ≡ [] → behind ≡ []
-      → TakesSome old old (map note_view (take 0 notes)) text behind
-  takes-start old notes text behind none none_behind = record {
+  pub takes-start : (old : Report F) (notes : List Note) (text after_line : List ℕ) → text ≡ [] → after_line ≡ []
+      → TakesSome old old (map note_view (take 0 notes)) text after_line
+  takes-start old notes text after_line none none_after = record {
     entries = [];
     are = tt;
     is = none;
-    behind_is = none_behind;
+    after_line_is = none_after;
     form = form-none (lines line line_end) last Knows old.form;
     line_is = refl;
     line_end_is = refl;
@@ -195,11 +200,11 @@ module _ {F : Type 0} (line line_end : F → EntryView → List ℕ) (last : F �
   }
 
   -- one more note
-  pub takes-more : (old mid new : Report F) (notes : List Note) (i : ℕ) (note : Note) (entry : EntryView) (text more behind further : List ℕ)
-      → i < length notes → note ≡ get_or notes i note → TakesSome old mid (map note_view (take i notes)) text behind → IsEntryOf (note_view note) entry
+  pub takes-more : (old mid new : Report F) (notes : List Note) (i : ℕ) (note : Note) (entry : EntryView) (text more after_line further : List ℕ)
+      → i < length notes → note ≡ get_or notes i note → TakesSome old mid (map note_view (take i notes)) text after_line → IsEntryOf (note_view note) entry
       → FormStep mid.form new.form entry → FilesTake mid.files new.files (entry ∷ []) → more ≡ text ++ line mid.form entry
-      → further ≡ behind ++ line_end mid.form entry → TakesSome old new (map note_view (take (i + 1) notes)) more further
-  takes-more old mid new notes i note entry text more behind further within is takes are step files grown grown_behind =
+      → further ≡ after_line ++ line_end mid.form entry → TakesSome old new (map note_view (take (i + 1) notes)) more further
+  takes-more old mid new notes i note entry text more after_line further within is takes are step files grown grown_after =
       let front : List NoteView = map note_view (take i notes) in
       let cut : take (i + 1) notes ≡ take i notes ++ note ∷ [] = take_more notes i note within ∙ ap (λ n. take i notes ++ n ∷ []) (sym is) in
       let notes_are : front ++ note_view note ∷ [] ≡ map note_view (take (i + 1) notes) =
@@ -212,7 +217,8 @@ module _ {F : Type 0} (line line_end : F → EntryView → List ℕ) (last : F �
             subst (λ ns. AllZip IsEntryOf ns (takes.entries ++ entry ∷ [])) notes_are
             (zip-append IsEntryOf front (note_view note ∷ []) takes.entries (entry ∷ []) takes.are (are, tt));
         is = grown-by (line old.form) (line mid.form) takes.entries entry text more takes.is takes.line_is grown;
-        behind_is = grown-by (line_end old.form) (line_end mid.form) takes.entries entry behind further takes.behind_is takes.line_end_is grown_behind;
+        after_line_is =
+            grown-by (line_end old.form) (line_end mid.form) takes.entries entry after_line further takes.after_line_is takes.line_end_is grown_after;
         form = form-then (lines line line_end) last Knows old.form mid.form new.form takes.entries (entry ∷ []) takes.form form;
         line_is = step.line_is ∙ takes.line_is;
         line_end_is = step.line_end_is ∙ takes.line_end_is;
@@ -220,12 +226,12 @@ module _ {F : Type 0} (line line_end : F → EntryView → List ℕ) (last : F �
       }
 
   -- all notes of a line
-  pub takes-line : (old new : Report F) (notes : List NoteView) (text behind whole : List ℕ) → TakesSome old new notes text behind → whole ≡ text ++ behind
-      → TakesNotes (lines line line_end) last Knows old new (notes ∷ []) whole
-  takes-line old new notes text behind whole takes is = record {
+  pub takes-line : (old new : Report F) (notes : List NoteView) (text after_line whole : List ℕ) → TakesSome old new notes text after_line
+      → whole ≡ text ++ after_line → TakesNotes (lines line line_end) last Knows old new (notes ∷ []) whole
+  takes-line old new notes text after_line whole takes is = record {
     entries = takes.entries ∷ [];
     are = (takes.are, tt);
-    is = is ∙ ap (λ x. x ++ behind) takes.is ∙ ap (λ x. flat_map (line old.form) takes.entries ++ x) takes.behind_is
+    is = is ∙ ap (λ x. x ++ after_line) takes.is ∙ ap (λ x. flat_map (line old.form) takes.entries ++ x) takes.after_line_is
         ∙ sym (append-nil (lines line line_end old.form takes.entries));
     form = subst (FormTakes (lines line line_end) last Knows old.form new.form) (sym (append-nil takes.entries)) takes.form;
     files = subst (FilesTake old.files new.files) (sym (append-nil takes.entries)) takes.files;

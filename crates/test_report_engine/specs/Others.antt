@@ -49,31 +49,31 @@ GetsInput input old new = (lines : List (List ℕ)) × AreLines input lines × G
 -- It got that of the first lines of an input. Of the report no more is written than a beginning of what these lines alone make known: so a line is passed
 -- on before the report writes what it or a later line makes known.
 pub record GetsStart (command : Option CommandView) {F : Type 0} (line : F → List EntryView → List ℕ) (report : Report F) (input : List ℕ)
-    (old new : SinkState) (before behind : Option (List ℕ)) : Type 0 where
+    (old new : SinkState) (before after : Option (List ℕ)) : Type 0 where
   pub first : List (List ℕ)
   pub others : List (List ℕ)
   pub are_lines : AreLines input (first ++ others)
   pub gets : GetsOthers first old new
-  pub written : ReadsStart command line report (flat_map with_feed first) before behind
+  pub written : ReadsStart command line report (flat_map with_feed first) before after
 
 -- the same, however the command will end while bytes are left; after the last one there is none
 abbrev pub GetsAnyStart : {F : Type 0} → (F → List EntryView → List ℕ) → Report F → List ℕ → List ℕ → SinkState → SinkState → Option (List ℕ) → Option (List ℕ)
     → Type 0
-GetsAnyStart line report begun rest old new before behind =
-    (command : Option CommandView) → (rest ≡ [] → command ≡ None) → GetsStart command line report (begun ++ rest) old new before behind
+GetsAnyStart line report begun rest old new before after =
+    (command : Option CommandView) → (rest ≡ [] → command ≡ None) → GetsStart command line report (begun ++ rest) old new before after
 
 -- It got that of each line that ends in some bytes. The bytes of a line that has begun come before them, and those of the next line are left.
 pub record GetsBytes {F : Type 0} (line : F → List EntryView → List ℕ) (report report_then : Report F) (begun begun_then bytes : List ℕ) (old new : SinkState)
-    (before behind : Option (List ℕ)) : Type 0 where
+    (before after : Option (List ℕ)) : Type 0 where
   pub ended : List (List ℕ)
   pub one_line : All IsOneLine ended
   pub are : begun ++ bytes ≡ flat_map with_feed ended ++ begun_then
   pub gets : GetsOthers ended old new
-  pub written : (command : Option CommandView) (rest : List ℕ) (end : Option (List ℕ)) → ReadsStart command line report_then rest behind end
+  pub written : (command : Option CommandView) (rest : List ℕ) (end : Option (List ℕ)) → ReadsStart command line report_then rest after end
       → ReadsStart command line report (flat_map with_feed ended ++ rest) before end
 
 -- the same of the next bytes of a source
 abbrev pub GetsPiece : {F : Type 0} → (F → List EntryView → List ℕ) → Report F → Report F → List ℕ → List ℕ → Option (List ℕ) → Option (List ℕ)
     → SinkState → SinkState → Option (List ℕ) → Option (List ℕ) → Type 0
-GetsPiece line report report_then begun begun_then at_first left old new before behind =
-    (bytes : List ℕ) × Consumes at_first left bytes × GetsBytes line report report_then begun begun_then bytes old new before behind
+GetsPiece line report report_then begun begun_then at_first left old new before after =
+    (bytes : List ℕ) × Consumes at_first left bytes × GetsBytes line report report_then begun begun_then bytes old new before after

@@ -40,22 +40,22 @@ piece_size = 16384
 abbrev pub ReadsSome : Option (List ℕ) → Option (List ℕ) → Type 0
 ReadsSome at_first left = (bytes : List ℕ) × Consumes at_first left bytes × (0 < length bytes) × (length bytes ≤ piece_size)
 
--- a beginning of the texts of these notes was appended. The notes of each line are a list
+-- a beginning of the texts of these notes was appended. The notes of each line, or of each part of the end of an input, are a list
 abbrev pub AppendsLinesStart : (List EntryView → List ℕ) → List (List NoteView) → Option (List ℕ) → Option (List ℕ) → Type 0
-AppendsLinesStart line notes before behind =
-    (entries : List (List EntryView)) → AllZip (AllZip IsEntryOf) notes entries → AppendsStart before behind (flat_map line entries)
+AppendsLinesStart line notes before after =
+    (entries : List (List EntryView)) → AllZip (AllZip IsEntryOf) notes entries → AppendsStart before after (flat_map line entries)
 
 -- a beginning of the texts of the entries of an input was appended: of the bytes that are left of it, and that a report is to read. If it is the output
 -- of a command, the command ends so
 abbrev pub ReadsStart : Option CommandView → {F : Type 0} → (F → List EntryView → List ℕ) → Report F → List ℕ → Option (List ℕ) → Option (List ℕ) → Type 0
-ReadsStart command line report rest before behind =
+ReadsStart command line report rest before after =
     (events : List (List EventView)) → AreLineEvents rest events
-    → AppendsLinesStart (line report.form) (notes_of_input (run_of report.run) (events ++ events_after command)) before behind
+    → AppendsLinesStart (line report.form) (notes_of_input (run_of report.run) (events ++ events_after command)) before after
 
 -- the same, however the command will end while bytes are left; after the last one there is none
 abbrev pub ReadsAnyStart : {F : Type 0} → (F → List EntryView → List ℕ) → Report F → List ℕ → List ℕ → Option (List ℕ) → Option (List ℕ) → Type 0
-ReadsAnyStart line report begun rest before behind =
-    (command : Option CommandView) → (rest ≡ [] → command ≡ None) → ReadsStart command line report (begun ++ rest) before behind
+ReadsAnyStart line report begun rest before after =
+    (command : Option CommandView) → (rest ≡ [] → command ≡ None) → ReadsStart command line report (begun ++ rest) before after
 
 -- a run took the events of a line, and they make these notes known
 pub record TakesLine (old new : TestRun) (bytes : List ℕ) (notes : List NoteView) : Type 0 where
@@ -80,7 +80,7 @@ module _ {F : Type 0} (line : F → List EntryView → List ℕ) (last : F → L
     pub line_is : line new ≡ line old
     pub last_is : last new ≡ last old
 
-  -- a report took these notes, and this is their text. The notes of each line are a list
+  -- a report took these notes, and this is their text. The notes of each line, or of each part of the end of an input, are a list
   pub record TakesNotes (old new : Report F) (notes : List (List NoteView)) (text : List ℕ) : Type 0 where
     pub entries : List (List EntryView)
     pub are : AllZip (AllZip IsEntryOf) notes entries
@@ -90,69 +90,69 @@ module _ {F : Type 0} (line : F → List EntryView → List ℕ) (last : F → L
 
   -- a report took these notes, and their text was appended
   abbrev pub WritesNotes : Report F → Report F → List (List NoteView) → Option (List ℕ) → Option (List ℕ) → Type 0
-  WritesNotes old new notes before behind = (text : List ℕ) × TakesNotes old new notes text × Appends before behind text
+  WritesNotes old new notes before after = (text : List ℕ) × TakesNotes old new notes text × Appends before after text
 
   -- a report took the events of a line, and what they make known was appended
-  pub record ReadsLine (old new : Report F) (bytes : List ℕ) (before behind : Option (List ℕ)) : Type 0 where
+  pub record ReadsLine (old new : Report F) (bytes : List ℕ) (before after : Option (List ℕ)) : Type 0 where
     pub events : List EventView
     pub says : LineSays bytes events
     pub run_is : run_of new.run ≡ after_line (run_of old.run) events
-    pub writes : WritesNotes old new (line_notes (run_of old.run) events ∷ []) before behind
+    pub writes : WritesNotes old new (line_notes (run_of old.run) events ∷ []) before after
 
   -- a report took the events of the bytes that are left of an input, and what they make known was appended. If the input is the output of a command,
   -- the command ended so
-  pub record ReadsInput (command : Option CommandView) (old new : Report F) (rest : List ℕ) (before behind : Option (List ℕ)) : Type 0 where
+  pub record ReadsInput (command : Option CommandView) (old new : Report F) (rest : List ℕ) (before after : Option (List ℕ)) : Type 0 where
     pub events : List (List EventView)
     pub say : AreLineEvents rest events
     pub run_is : run_of new.run ≡ run_after_input (run_of old.run) (events ++ events_after command)
-    pub writes : WritesNotes old new (notes_of_input (run_of old.run) (events ++ events_after command)) before behind
+    pub writes : WritesNotes old new (notes_of_input (run_of old.run) (events ++ events_after command)) before after
 
   -- Some bytes of an input lead from one state to another: what comes of the rest there comes of these bytes and the rest here. The bytes of a line
   -- that has begun come before them.
-  pub record LeadsTo (old new : Report F) (begun begun_then bytes : List ℕ) (before behind : Option (List ℕ)) : Type 0 where
+  pub record LeadsTo (old new : Report F) (begun begun_then bytes : List ℕ) (before after : Option (List ℕ)) : Type 0 where
     pub reads : (command : Option CommandView) (rest : List ℕ) (end : Report F) (written : Option (List ℕ))
-        → ReadsInput command new end (begun_then ++ rest) behind written → ReadsInput command old end (begun ++ (bytes ++ rest)) before written
+        → ReadsInput command new end (begun_then ++ rest) after written → ReadsInput command old end (begun ++ (bytes ++ rest)) before written
     pub starts : (command : Option CommandView) (rest : List ℕ) (written : Option (List ℕ))
-        → ReadsStart command line new (begun_then ++ rest) behind written → ReadsStart command line old (begun ++ (bytes ++ rest)) before written
+        → ReadsStart command line new (begun_then ++ rest) after written → ReadsStart command line old (begun ++ (bytes ++ rest)) before written
 
   -- A report took the next bytes of an input. The bytes of a line that has begun come before them.
-  pub record ReadsPiece (old new : Report F) (begun begun_then : List ℕ) (at_first left before behind : Option (List ℕ)) : Type 0 where
+  pub record ReadsPiece (old new : Report F) (begun begun_then : List ℕ) (at_first left before after : Option (List ℕ)) : Type 0 where
     pub bytes : List ℕ
     pub consumed : Consumes at_first left bytes
-    pub leads : LeadsTo old new begun begun_then bytes before behind
+    pub leads : LeadsTo old new begun begun_then bytes before after
 
   -- a report that has read some inputs has then read this one too, and its lines were appended
   abbrev pub ReadsOneMore : Report F → Report F → InputView → Option (List ℕ) → Option (List ℕ) → Type 0
-  ReadsOneMore old new input before behind =
+  ReadsOneMore old new input before after =
       (slow : ℕ) (form : F) (inputs : List InputView) (written : List ℕ) → HasRead slow form old inputs written
-      → (more : List ℕ) × HasRead slow form new (inputs ++ input ∷ []) (written ++ more) × Appends before behind more
+      → (more : List ℕ) × HasRead slow form new (inputs ++ input ∷ []) (written ++ more) × Appends before after more
 
   -- a beginning of what is written of one more input was appended, whatever that is
   abbrev pub BreaksOff : Report F → InputView → Option (List ℕ) → Option (List ℕ) → Type 0
-  BreaksOff old input before behind =
+  BreaksOff old input before after =
       (slow : ℕ) (form : F) (inputs : List InputView) (written more : List ℕ) → HasRead slow form old inputs written
-      → AreLinesOf slow (line form) (inputs ++ input ∷ []) (written ++ more) → AppendsStart before behind more
+      → AreLinesOf slow (line form) (inputs ++ input ∷ []) (written ++ more) → AppendsStart before after more
 
   -- a report is ready for the output of a command whose suites have these names: what it reads of it up to the end of the command is then one more
   -- input
   pub record StartsCommand (names : SuiteNames) (old new : Report F) : Type 0 where
-    pub reads : (bytes : List ℕ) (end : CommandView) (last : Report F) (before behind : Option (List ℕ))
-        → ReadsInput (Some end) new last bytes before behind → ReadsOneMore old last (output names bytes end) before behind
-    pub files : (bytes : List ℕ) (end : CommandView) (last : Report F) (before behind : Option (List ℕ))
-        → ReadsInput (Some end) new last bytes before behind
+    pub reads : (bytes : List ℕ) (end : CommandView) (last : Report F) (before after : Option (List ℕ))
+        → ReadsInput (Some end) new last bytes before after → ReadsOneMore old last (output names bytes end) before after
+    pub files : (bytes : List ℕ) (end : CommandView) (last : Report F) (before after : Option (List ℕ))
+        → ReadsInput (Some end) new last bytes before after
         → (slow : ℕ) (files : FileForms) (inputs : List InputView) → FilesHaveRead slow files old inputs
         → FilesHaveRead slow files last (inputs ++ output names bytes end ∷ [])
-    pub breaks_off : (bytes : List ℕ) (end : CommandView) (before behind : Option (List ℕ))
-        → ReadsStart (Some end) line new bytes before behind → BreaksOff old (output names bytes end) before behind
+    pub breaks_off : (bytes : List ℕ) (end : CommandView) (before after : Option (List ℕ))
+        → ReadsStart (Some end) line new bytes before after → BreaksOff old (output names bytes end) before after
 
   -- the end of the report was appended, and this is the end of the run
   abbrev pub Finishes : Report F → RunEnd → Option (List ℕ) → Option (List ℕ) → Type 0
-  Finishes report end before behind =
+  Finishes report end before after =
       (slow : ℕ) (form : F) (inputs : List InputView) (written : List ℕ) → HasRead slow form report inputs written
-      → (more : List ℕ) × IsReport slow (line form) (last form) inputs (written ++ more) end × Appends before behind more
+      → (more : List ℕ) × IsReport slow (line form) (last form) inputs (written ++ more) end × Appends before after more
 
   -- a beginning of the end of the report was appended, whatever that is
   abbrev pub BreaksOffEnd : Report F → Option (List ℕ) → Option (List ℕ) → Type 0
-  BreaksOffEnd report before behind =
+  BreaksOffEnd report before after =
       (slow : ℕ) (form : F) (inputs : List InputView) (written more : List ℕ) (end : RunEnd) → HasRead slow form report inputs written
-      → IsReport slow (line form) (last form) inputs (written ++ more) end → AppendsStart before behind more
+      → IsReport slow (line form) (last form) inputs (written ++ more) end → AppendsStart before after more

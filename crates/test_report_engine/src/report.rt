@@ -1,19 +1,21 @@
 //! A report that is written while its run is read.
 
-ghost use Rattle.std.specs.Prelude.{◌≡◌, ◌≢◌, ◌↔◌, ◌⊎◌, ◌++◌, ◌∷◌, [], ℕ, true, false, List, None, Option, Some, IfErr, IfOk, IfSome, OnOk, OnErr, IsErrOf, map, option_map, string_bytes};
+ghost use Rattle.std.specs.Prelude.{◌+◌, ◌<◌, ◌≤◌, ◌≡◌, ◌≢◌, ◌↔◌, ◌⊎◌, ◌++◌, ◌∷◌, [], ℕ, true, false, List, None, Option, Some, IfErr, IfOk, IfSome, OnOk, OnErr, IsErrOf, length, map, option_map, string_bytes};
 ghost use Rattle.std.specs.Io.KnownBytes.{IsAtEnd};
+ghost use Rattle.std.specs.List.{position};
 ghost use Rattle.test_report_events.specs.Event.{Cancels, CommandView, EventView};
 ghost use Rattle.test_report_events.specs.Line.{LineSays};
 ghost use Rattle.test_report_forms.specs.Files.{FilesKnow};
 ghost use Rattle.test_report_forms.specs.Form.{lines};
 ghost use Rattle.test_report_forms.specs.declared.files.FileForms.{FileForms};
-ghost use Rattle.test_report_run.specs.Note.{command_view, note_view};
+ghost use Rattle.test_report_run.specs.Note.{command_view, disagreement_view, note_view};
 ghost use Rattle.test_report_run.specs.Run.{after, run_state};
 ghost use Rattle.test_report_run.specs.SuiteNames.{names_of};
 ghost use Rattle.test_report_engine.specs.Lines.{InputView, IsOneLine, events_after, file};
 ghost use Rattle.test_report_engine.specs.Others.{GetsOthers, sink_state};
 ghost use Rattle.test_report_engine.specs.Reading.{TakesLine};
-ghost use Rattle.test_report_engine.specs.Report.{AreTexts, end_notes, line_notes, run_after, run_after_input, run_of};
+ghost use Rattle.test_report_engine.specs.Report as spec;
+ghost use Rattle.test_report_engine.specs.Report.{AreTexts, end_notes, line_notes, parts, run_after, run_after_input, run_of};
 ghost use Rattle.test_report_engine.specs.declared.fault.Fault.TheVariants as faults;
 
 use crate::fault::Fault;
@@ -29,7 +31,7 @@ use test_report_forms::entry::Entry;
 use test_report_forms::files::{FileForms, FileTexts};
 use test_report_forms::form::Form;
 use test_report_run::error::RunError;
-use test_report_run::note::{CommandEnd, Note, RunEnd};
+use test_report_run::note::{CommandEnd, Disagreement, Note, RunEnd};
 use test_report_run::run::TestRun;
 use test_report_run::suite_names::SuiteNames;
 
@@ -412,10 +414,38 @@ impl<F: Form + Drop> Report<F> {
             self.on_line(alloc, begun, sink, others)?;
         }
         let notes = notes_of_end(alloc, &mut self.run, command)?;
-        self.write(alloc, notes.as_slice(), sink)
+        self.write_parts(alloc, notes.as_slice(), sink)
     }
 
-    /// Writes the text of the notes of a line, or of the end of an input, and flushes the sink if there is text.
+    /// Writes the text of the notes of the end of an input, part after part, and flushes the sink if there is text.
+    fn write_parts<W: Sink>(
+        &mut self,
+        alloc: Global,
+        notes: &[Note],
+        sink: &mut W,
+    ) -> Result<(), Fault>
+        requires sink_works { W.failed sink.old ≡ false }
+        ensures write { IsErrOf result faults.Write ↔ (W.failed sink.new ≡ true) }
+        ensures errors { IfErr result (λ e. e ≢ faults.Read) }
+        ensures flushed { OnOk result (W.flushed sink.old ≡ true → W.flushed sink.new ≡ true) }
+        ensures same_run { self.new.run ≡ self.old.run }
+        ensures writes { OnOk result (reading.WritesNotes (lines F.line F.line_end) F.last F.Knows self.old self.new
+            (parts (map note_view notes.now)) (W.written sink.old) (W.written sink.new)) }
+        ensures starts { OnErr result (reading.AppendsLinesStart (lines F.line F.line_end self.old.form)
+            (parts (map note_view notes.now)) (W.written sink.old) (W.written sink.new)) }
+    {
+        test_report_forms::laws::one_entry();
+        let mut rest = notes;
+        while let Some(size) = part_size(rest) {
+            let (part, after) = rest.split_at(size);
+            self.write(alloc, part, sink)?;
+            rest = after;
+        }
+        self.write(alloc, rest, sink)
+    }
+
+    /// Writes the text of the notes of a line, or of a part of the end of an input, and flushes the sink if there is
+    /// text.
     fn write<W: Sink>(&mut self, alloc: Global, notes: &[Note], sink: &mut W) -> Result<(), Fault>
         requires sink_works { W.failed sink.old ≡ false }
         ensures write { IsErrOf result faults.Write ↔ (W.failed sink.new ≡ true) }
@@ -436,21 +466,22 @@ impl<F: Form + Drop> Report<F> {
         Ok(())
     }
 
-    /// Passes the notes of a line, or of the end of an input, to the forms, and returns the text that is written at
-    /// once: the text of each note, and then what the form writes after these texts.
+    /// Passes the notes of a line, or of a part of the end of an input, to the forms, and returns the text that is
+    /// written at once: the text of each note, and then what the form writes after these texts.
     fn lines_of(&mut self, alloc: Global, notes: &[Note]) -> Result<String, AllocError>
         ensures same_run { self.new.run ≡ self.old.run }
         ensures takes { IfOk result (λ text. reading.TakesNotes (lines F.line F.line_end) F.last F.Knows self.old self.new
             (map note_view notes.now ∷ []) (string_bytes text)) }
     {
         let mut text = String::new(alloc);
-        let mut behind = String::new(alloc);
+        let mut after_line = String::new(alloc);
         for note in notes {
             let entry = Entry::of(alloc, note)?;
             self.files.on_entry(alloc, &entry)?;
-            self.form.on_entry(alloc, &entry, &mut text, &mut behind)?;
+            self.form
+                .on_entry(alloc, &entry, &mut text, &mut after_line)?;
         }
-        text.push_str(behind.as_str())?;
+        text.push_str(after_line.as_str())?;
         Ok(text)
     }
 }
@@ -485,11 +516,52 @@ fn notes_of_end(
 ) -> Result<Vec<Note>, RunError>
     ensures takes { OnOk result (run_of run.new ≡ run_after_input (run_of run.old)
         (events_after (option_map (λ end. command_view end.now) command.entry))) }
-    ensures tells { IfOk result (λ notes. map note_view notes.items ≡ end_notes (run_after (run_of run.old)
+    ensures tells { IfOk result (λ notes. parts (map note_view notes.items) ≡ end_notes (run_after (run_of run.old)
         (events_after (option_map (λ end. command_view end.now) command.entry)))) }
 {
     if let Some(end) = command {
         run.on_command_ended(end)?;
     }
     run.end_file(alloc)
+}
+
+/// Returns how many notes the first part has, or `None` if no note ends a part.
+fn part_size(notes: &[Note]) -> Option<usize>
+    ensures first { result ≡ option_map (λ last. last + 1) (position (λ n. spec.ends_part (note_view n)) notes.now) }
+    ensures within { IfSome result (λ size. (0 < size) × (size ≤ length notes.now)) }
+{
+    match part_end(notes) {
+        Some(last) => Some(last + 1),
+        None => None,
+    }
+}
+
+/// Returns the offset of the last note of the first part, or `None` if no note ends a part.
+fn part_end(notes: &[Note]) -> Option<usize>
+    ensures first { result ≡ position (λ n. spec.ends_part (note_view n)) notes.now }
+    ensures within { IfSome result (λ last. last < length notes.now) }
+{
+    notes.iter().position(ends_part)
+}
+
+/// Returns true for the last note of a part of what the end of an input makes known: the numbers of a suite, or a
+/// disagreement of no suite.
+fn ends_part(note: &Note) -> bool
+    ensures { result ≡ spec.ends_part (note_view note.now) }
+{
+    match note {
+        Note::Suite(_) => true,
+        Note::Disagreement(disagreement) => is_of_no_suite(disagreement),
+        Note::Test(_) | Note::Flaky(_) | Note::NotRun(_) => false,
+    }
+}
+
+/// Returns true for a failure of cargo, an input without events, and a command that failed.
+fn is_of_no_suite(disagreement: &Disagreement) -> bool
+    ensures { result ≡ spec.is_of_no_suite (disagreement_view disagreement.now) }
+{
+    matches!(
+        disagreement,
+        Disagreement::Cargo(_) | Disagreement::NoEvent | Disagreement::Command(_)
+    )
 }

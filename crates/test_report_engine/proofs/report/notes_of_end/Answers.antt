@@ -3,7 +3,7 @@ use Rattle.std.proofs.lemmas.Result.{IfOk-weaker, on_ok_weaker}
 use Rattle.test_report_run.specs.Note.{command_view, note_view}
 use Rattle.test_report_run.specs.Run.{file_notes, run_state}
 use Rattle.test_report_engine.specs.Lines.{events_after}
-use Rattle.test_report_engine.specs.Report.{end_notes, run_after, run_of}
+use Rattle.test_report_engine.specs.Report.{end_notes, parts, run_after, run_of}
 use Rattle.test_report_engine.proofs.Inputs.{LearnsEnd, learns-end, learns-none, over-runs, over-tells}
 use Rattle.test_report_engine.proofs.report.notes_of_end.Goals as goal
 use Rattle.test_report_engine.proofs.report.notes_of_end.Goals.{in-Some+in_ok-on_command_ended, in_default}
@@ -35,7 +35,7 @@ returns-clause-tells c =
           (learns-none c.args.run.now c.match-command.run w.run-is)
     ] in
     IfOk-weaker c.end_file.result (λ notes. map note_view notes.items ≡ file_notes (run_state c.match-command.run))
-    (λ notes. map note_view notes.items
+    (λ notes. parts (map note_view notes.items)
     ≡ end_notes (run_after (run_of c.args.run.now) (events_after (option_map (λ end. command_view end.now) c.args.command))))
     (λ notes is. over-tells (option_map (λ end. command_view end.now) c.args.command) c.args.run.now c.match-command.run
     (map note_view notes.items) learns is)

@@ -43,11 +43,11 @@ returns-clause-starts g c =
       | else-not-is_empty w ↦ ends-none (lines g.F.Form.line g.F.Form.line_end) g.F.Form.last g.F.Form.Knows _ _ _ _ _ (grind arith) w.self-is
           (ap g.W.Sink.written w.sink-is)
     ] in
-    on_err_weaker c.write.result
+    on_err_weaker c.write_parts.result
     (λ starts. ends.starts _ _ (input-end-start c.one_reading_of_line.ensures _ (lines g.F.Form.line g.F.Form.line_end) c.if-not-is_empty.self _ _
     (notes-start _ (lines g.F.Form.line g.F.Form.line_end c.if-not-is_empty.self.form) _ _ _ _ _ refl c.in_ok-notes.ensures.tells c.as_slice.ensures.value
     starts)))
-    c.write.ensures.starts
+    c.write_parts.ensures.starts
 
 pub returns-clause-reads : goal.returns-clause-reads
 returns-clause-reads g c =
@@ -62,11 +62,11 @@ returns-clause-reads g c =
       | else-not-is_empty w ↦ ends-none (lines g.F.Form.line g.F.Form.line_end) g.F.Form.last g.F.Form.Knows _ _ _ _ _ (grind arith) w.self-is
           (ap g.W.Sink.written w.sink-is)
     ] in
-    on_ok_weaker c.write.result
-    (λ writes. ends.reads _ c.write.new.self _ (end-read (lines g.F.Form.line g.F.Form.line_end) g.F.Form.last g.F.Form.Knows _ c.if-not-is_empty.self
-    c.write.new.self _ _ _ _ _
-    refl c.in_ok-notes.ensures.tells c.in_ok-notes.ensures.takes c.as_slice.ensures.value c.write.ensures.same_run writes))
-    c.write.ensures.writes
+    on_ok_weaker c.write_parts.result
+    (λ writes. ends.reads _ c.write_parts.new.self _ (end-read (lines g.F.Form.line g.F.Form.line_end) g.F.Form.last g.F.Form.Knows _ c.if-not-is_empty.self
+    c.write_parts.new.self _ _ _ _ _
+    refl c.in_ok-notes.ensures.tells c.in_ok-notes.ensures.takes c.as_slice.ensures.value c.write_parts.ensures.same_run writes))
+    c.write_parts.ensures.writes
 
 pub returns-in_err-on_line-clause-others_start : goal.returns-in_err-on_line-clause-others_start
 returns-in_err-on_line-clause-others_start g c =
@@ -113,7 +113,7 @@ returns-clause-others g c =
           ends-gets-none (lines g.F.Form.line g.F.Form.line_end) _ _ _ _ _ _ _ (grind arith) w.self-is
           (ap (sink_state g.O.Sink.failed g.O.Sink.flushed g.O.Sink.written) w.others-is) (ap g.W.Sink.written w.sink-is)
     ] in
-    on_ok_weaker c.write.result (λ writes. ends-input (lines g.F.Form.line g.F.Form.line_end) _ _ _ _ _ _ _ ends) c.write.ensures.writes
+    on_ok_weaker c.write_parts.result (λ writes. ends-input (lines g.F.Form.line g.F.Form.line_end) _ _ _ _ _ _ _ ends) c.write_parts.ensures.writes
 
 pub returns-clause-others_start : goal.returns-clause-others_start
 returns-clause-others_start g c =
@@ -132,9 +132,9 @@ returns-clause-others_start g c =
           ends-gets-none (lines g.F.Form.line g.F.Form.line_end) _ _ _ _ _ _ _ (grind arith) w.self-is
           (ap (sink_state g.O.Sink.failed g.O.Sink.flushed g.O.Sink.written) w.others-is) (ap g.W.Sink.written w.sink-is)
     ] in
-    on_err_weaker c.write.result
+    on_err_weaker c.write_parts.result
     (λ starts. ends-stop (lines g.F.Form.line g.F.Form.line_end) _ _ _ _ _ _ _ _ _ ends
     (input-end-start c.one_reading_of_line.ensures _ (lines g.F.Form.line g.F.Form.line_end) c.if-not-is_empty.self _ _
     (notes-start _ (lines g.F.Form.line g.F.Form.line_end c.if-not-is_empty.self.form) _ _ _ _ _ refl c.in_ok-notes.ensures.tells c.as_slice.ensures.value
     starts)))
-    c.write.ensures.starts
+    c.write_parts.ensures.starts

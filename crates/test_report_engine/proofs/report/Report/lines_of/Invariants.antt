@@ -8,5 +8,5 @@ abbrev pub invariant-loop-note : goal.invariant-loop-note
 invariant-loop-note g l = record {
   same_run : l.self.run ≡ l.fn.self.run;
   takes : TakesSome g.F.Form.line g.F.Form.line_end g.F.Form.last g.F.Form.Knows l.fn.self l.self (map note_view (take l.note-index l.notes))
-      (string_bytes l.text) (string_bytes l.behind);
+      (string_bytes l.text) (string_bytes l.after_line);
 }
