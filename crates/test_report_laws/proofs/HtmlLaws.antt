@@ -5,11 +5,14 @@ use Rattle.std.specs.Char.{encode_utf8}
 use Rattle.std.specs.List.{All, flat_map}
 use Rattle.std.specs.Prelude.{Contains}
 use Rattle.std.specs.Str.{chars}
+use Rattle.run_events_stats.specs.declared.outcome.run_outcome.RunOutcome.{RunOutcome}
+use Rattle.run_events_stats.specs.declared.outcome.run_outcome.RunOutcome.TheVariants as outcome
 use Rattle.template.proofs.Controls.{Clean, also, word}
 use Rattle.template.proofs.Parts.{in-part}
-use Rattle.template.specs.Hole.{hole_text}
+use Rattle.template.specs.Hole.{hole_text, markup}
 use Rattle.template.specs.Laws.{RendersNoControls, RendersOneTree, ShowsPhrases, ShowsSections, ShowsValues}
 use Rattle.template.specs.Parse.{parse, template_parts}
+use Rattle.template.specs.Shown.{shown}
 use Rattle.template.specs.Shows.{HasPart, items_at}
 use Rattle.template.specs.Template.{Parts, Values, items_of, part_text, parts_text, text_of, values_of}
 use Rattle.template.specs.declared.hole.Hole.TheVariants as hole
@@ -48,6 +51,19 @@ html-shows-values sound shows o entries end =
     All-weaker (HasValues vs (parts_text page_parts vs)) (HasValues vs (page_text vs))
     (λ h. all-in-page vs (λ i. hole_text h.kind (text_of h.name i)) (items_at h.path vs)) page_holes (shown-holes shows page_parts vs page_holes sound.holes)
 
+-- the outcome is written as it is
+outcome-written : (o : RunOutcome) → hole_text hole.Text (outcome_word o) ≡ outcome_word o
+unfolding hole_text shown markup chars encode_utf8
+outcome-written outcome.Success = refl
+outcome-written outcome.NoTestsRun = refl
+outcome-written (outcome.Cancelled step) = refl
+outcome-written (outcome.Failed step) = refl
+
+-- the values have the outcome
+own-outcome : (r : ReportView) → text_of (codes "outcome") (values_of (report_values r)) ≡ outcome_word r.end.outcome
+unfolding report_values run_values
+own-outcome r = refl
+
 pub html-names-causes : HtmlShowsValues → HtmlNamesCauses
 html-names-causes shows o entries end =
     let page = html_of o entries end in
@@ -56,7 +72,9 @@ html-names-causes shows o entries end =
     names-causes page hole.Text o entries end
     (values-of vs page page_holes hole.Text (codes "failures" ∷ codes "failed" ∷ []) (codes "name") refl all)
     (values-of vs page page_holes hole.Text (codes "problems" ∷ codes "problem" ∷ []) (codes "line") refl all)
-    (values-of vs page page_holes hole.Text [] (codes "outcome") refl all)
+    (subst (HasPart page) (ap (hole_text hole.Text) (own-outcome (report_of page_limits o entries end)) ∙ outcome-written end.outcome)
+    (All-head (λ i. HasPart page (hole_text hole.Text (text_of (codes "outcome") i))) vs []
+    (values-of vs page page_holes hole.Text [] (codes "outcome") refl all)))
 
 -- phrases
 pub html-shows-phrases : PageIsSound → ShowsPhrases → HtmlShowsPhrases

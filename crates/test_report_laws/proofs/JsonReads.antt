@@ -9,8 +9,8 @@ use Rattle.json.specs.Print.{IsNumber, begins, ends, escape, escape_byte, print_
 use Rattle.json.specs.Text.{code_unit, content, plain, prepend, short_escape}
 use Rattle.json.specs.Token.{Token}
 use Rattle.json.specs.Tree.{HasNumbers, ItemsHaveNumbers, MembersHaveNumbers, depth, items_tokens, json_tokens, members_tokens}
-use Rattle.json.specs.Word.{ends_word, is_operator, is_space}
-use Rattle.json.proofs.Printed.Numbers.{lex-number}
+use Rattle.json.specs.Word.{ends_word, is_operator, is_space, word}
+use Rattle.json.proofs.Printed.Numbers.{in_word-ended, lex-number}
 use Rattle.json.proofs.Printed.Strings.{content-escape, escape_byte_plain, lex-escape}
 use Rattle.json.proofs.Printed.Tokens.{tokens-print}
 use Rattle.json.proofs.Printed.Trees.{ArePrintable-json_tokens, value-json_tokens}
@@ -250,7 +250,17 @@ quiet : (p r : List ℕ) → HasNoHash p → hidden (p ++ r) ≡ p ++ hidden r
 quiet [] r none = refl
 quiet (x ∷ p) r none = other x (p ++ r) none.0 ∙ ap (λ l. x ∷ l) (quiet p r none.1)
 
--- the tokens of a report: no booleans, no `null`, and no numbers with `#`
+-- a boolean
+boolean-quiet : (b : Bool) → HasNoHash (token_text (Token.boolean b))
+boolean-quiet true = (refl, (refl, (refl, (refl, tt))))
+boolean-quiet false = (refl, (refl, (refl, (refl, (refl, tt)))))
+
+lex-boolean : (b : Bool) (r : List ℕ) → ends_word r ≡ true → lex between (token_text (Token.boolean b) ++ r) ≡ token (Token.boolean b) ∷ lex between r
+unfolding lex word
+lex-boolean true r ended = ap₂ (λ e l. token (cond e (Token.boolean true) Token.bad) ∷ l) ended (in_word-ended r ended)
+lex-boolean false r ended = ap₂ (λ e l. token (cond e (Token.boolean false) Token.bad) ∷ l) ended (in_word-ended r ended)
+
+-- the tokens of a report: no `null`, and no numbers with `#`
 abbrev IsWritten : Token → Type 0
 IsWritten Token.begin_object = ⊤
 IsWritten Token.end_object = ⊤
@@ -259,7 +269,7 @@ IsWritten Token.end_array = ⊤
 IsWritten (Token.key s) = ⊤
 IsWritten (Token.string s) = ⊤
 IsWritten (Token.number s) = IsNumber s × HasNoHash s
-IsWritten (Token.boolean b) = ⊥
+IsWritten (Token.boolean b) = ⊤
 IsWritten Token.null = ⊥
 IsWritten Token.bad = ⊥
 
@@ -282,7 +292,7 @@ ends-so (Token.end_array ∷ ts) h = refl
 ends-so (Token.key s ∷ ts) h = refl
 ends-so (Token.string s ∷ ts) h = refl
 ends-so (Token.number s ∷ ts) h = refl
-ends-so (Token.boolean b ∷ ts) h = absurd h.0
+ends-so (Token.boolean b ∷ ts) h = refl
 ends-so (Token.null ∷ ts) h = absurd h.0
 ends-so (Token.bad ∷ ts) h = absurd h.0
 
@@ -296,7 +306,7 @@ plain-ends-so (Token.end_array ∷ ts) h = refl
 plain-ends-so (Token.key s ∷ ts) h = refl
 plain-ends-so (Token.string s ∷ ts) h = refl
 plain-ends-so (Token.number s ∷ ts) h = refl
-plain-ends-so (Token.boolean b ∷ ts) h = absurd h.0
+plain-ends-so (Token.boolean b ∷ ts) h = refl
 plain-ends-so (Token.null ∷ ts) h = absurd h.0
 plain-ends-so (Token.bad ∷ ts) h = absurd h.0
 
@@ -327,7 +337,10 @@ same-token (Token.number s) ts w ws h =
     let r = print_from true ts in
     ap (lex between) (quiet s r w.1)
     ∙ (lex-number s (hidden r) w.0 (ends-so ts ws) ∙ (ap (λ l. token (Token.number s) ∷ l) h ∙ sym (lex-number s r w.0 (plain-ends-so ts ws))))
-same-token (Token.boolean b) ts w ws h = absurd w
+same-token (Token.boolean b) ts w ws h =
+    let r = print_from true ts in
+    ap (lex between) (quiet (token_text (Token.boolean b)) r (boolean-quiet b))
+    ∙ (lex-boolean b (hidden r) (ends-so ts ws) ∙ (ap (λ l. token (Token.boolean b) ∷ l) h ∙ sym (lex-boolean b r (plain-ends-so ts ws))))
 same-token Token.null ts w ws h = absurd w
 same-token Token.bad ts w ws h = absurd w
 
@@ -340,7 +353,7 @@ same-lexemes c (t ∷ ts) h =
 mutual
   written-tokens : (j : Json) → IsPlainValue j → AreWritten (json_tokens j)
   written-tokens null h = absurd h
-  written-tokens (boolean b) h = absurd h
+  written-tokens (boolean b) h = (tt, tt)
   written-tokens (number s) h = (h, tt)
   written-tokens (string s) h = (tt, tt)
   written-tokens (array js) h = (tt, written-items js h)
@@ -357,7 +370,7 @@ mutual
 mutual
   has-numbers : (j : Json) → IsPlainValue j → HasNumbers j
   has-numbers null h = absurd h
-  has-numbers (boolean b) h = absurd h
+  has-numbers (boolean b) h = tt
   has-numbers (number s) h = h.0
   has-numbers (string s) h = tt
   has-numbers (array js) h = items-numbers js h

@@ -134,7 +134,7 @@ module _ (name line : List ℕ → List ℕ) (entries : List EntryView) (end : R
 
   names-reason : ((e : EntryView) × Contains entries e × IsTrue (is_reason e)) ⊎ RanNoTests end → NamesReason name line entries end text
   names-reason (inl found) = names-entry found.0 found.1 found.2
-  names-reason (inr none) = inr (inr record { is = none; said = subst (λ o. HasPart text (line (outcome_word o))) none causes.outcome })
+  names-reason (inr none) = inr (inr record { is = none; said = subst (λ o. HasPart text (outcome_word o)) none causes.outcome })
 
 -- the failed test of an entry, and those of entries, in a summary
 abbrev test_of : Options → EntryView → Option FailedView
@@ -226,7 +226,7 @@ module _ (o : Options) (entries : List EntryView) (end : RunEnd) (text : List �
 
   summary-reason : ((e : EntryView) × Contains entries e × IsTrue (is_reason e)) ⊎ RanNoTests end → NamesReason in_markdown in_markdown entries end text
   summary-reason (inl found) = summary-entry found.0 found.1 found.2
-  summary-reason (inr none) = inr (inr record { is = none; said = subst (λ o. HasPart text (in_markdown (outcome_word o))) none causes.outcome })
+  summary-reason (inr none) = inr (inr record { is = none; said = subst (λ o. HasPart text (outcome_word o)) none causes.outcome })
 
 github-own : (o : Options) (e : EntryView) → IsTrue (is_reason e) → (b : Block) × (github_block o e ≡ Some b)
 github-own o (TestPassed t) reason = absurd (cc)

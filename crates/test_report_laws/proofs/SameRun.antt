@@ -1,8 +1,9 @@
 -- The run of a report is that of files, of which the laws of runs speak.
-use Rattle.std.proofs.Common.{◌≡◌, ◌∙◌, ◌++◌, List, [], ◌∷◌, ap, append-nil, map, refl, subst, sym}
+use Rattle.std.proofs.Common.{◌≡◌, ◌∙◌, ◌++◌, List, [], ◌∷◌, ap, map, refl, subst, sym}
 use Rattle.std.proofs.lemmas.List.Concat.{flat_map-append}
 use Rattle.std.proofs.lemmas.List.Sums.{fold-append}
-use Rattle.std.specs.List.{AllZip, flat_map}
+use Rattle.std.specs.List.{AllZip, flat_map, onto_first}
+use Rattle.std.specs.Prelude.{false, if◌then◌else◌, true}
 use Rattle.test_report_events.specs.Event.{EventView}
 use Rattle.test_report_engine.proofs.Lists.{zip-append}
 use Rattle.test_report_forms.specs.Entry.{EntryView, IsEntryOf}
@@ -12,7 +13,7 @@ use Rattle.test_report_run.proofs.Lines.{notes-append}
 use Rattle.test_report_laws.specs.Whole as whole
 use Rattle.test_report_laws.specs.Report.{HasEvents, OneRun}
 use Rattle.test_report_engine.specs.Lines.{AreEventsOf, InputView}
-use Rattle.test_report_engine.specs.Report.{after_end, after_line, all_entries, end_notes, line_notes, notes_of, notes_of_input, notes_of_inputs, run_after, run_after_input, run_after_inputs}
+use Rattle.test_report_engine.specs.Report.{after_end, after_line, all_entries, end_notes, ends_part, line_notes, notes_of, notes_of_input, notes_of_inputs, parts, run_after, run_after_input, run_after_inputs}
 
 -- a line, and the end of an input
 same-line : (r : RunState) (line : List EventView) → line_notes r line ≡ whole.notes_of r line
@@ -22,10 +23,6 @@ same-line r line = refl
 same-after : (r : RunState) (line : List EventView) → after_line r line ≡ whole.run_after r line
 unfolding after_line
 same-after r line = refl
-
-same-end : (r : RunState) → end_notes r ≡ file_notes r
-unfolding end_notes
-same-end r = refl
 
 same-after_end : (r : RunState) → after_end r ≡ after_file r
 unfolding after_end
@@ -45,6 +42,23 @@ lines-run r (line ∷ lines) =
 abbrev all-notes : List (List NoteView) → List NoteView
 all-notes notes = flat_map (λ line. line) notes
 
+-- the parts of notes are these notes
+onto-first : (n : NoteView) (ps : List (List NoteView)) → all-notes (onto_first n ps) ≡ n ∷ all-notes ps
+onto-first n [] = refl
+onto-first n (p ∷ ps) = refl
+
+all-parts : (ns : List NoteView) → all-notes (parts ns) ≡ ns
+all-parts [] = refl
+all-parts (n ∷ ns) =
+    elim (ends_part n) as (λ b. all-notes (if b then (n ∷ []) ∷ parts ns else onto_first n (parts ns)) ≡ n ∷ ns) [
+      | true ↦ ap (λ l. n ∷ l) (all-parts ns)
+      | false ↦ onto-first n (parts ns) ∙ ap (λ l. n ∷ l) (all-parts ns)
+    ]
+
+same-end : (r : RunState) → all-notes (end_notes r) ≡ file_notes r
+unfolding end_notes
+same-end r = all-parts (file_notes r)
+
 lines-notes : (r : RunState) (lines : List (List EventView)) → all-notes (notes_of r lines) ≡ whole.notes_of r (in-order lines)
 lines-notes r [] = refl
 lines-notes r (line ∷ lines) =
@@ -60,9 +74,9 @@ input-run r lines = same-after_end (run_after r lines) ∙ ap after_file (lines-
 input-notes : (r : RunState) (lines : List (List EventView)) → all-notes (notes_of_input r lines) ≡ whole.notes_of_file r (in-order lines)
 input-notes r lines =
     let end = end_notes (run_after r lines) in
-    flat_map-append (λ line. line) (notes_of r lines) (end ∷ [])
-    ∙ ap (λ ns. ns ++ (end ++ [])) (lines-notes r lines)
-    ∙ ap (λ ns. whole.notes_of r (in-order lines) ++ ns) (append-nil end ∙ same-end (run_after r lines) ∙ ap file_notes (lines-run r lines))
+    flat_map-append (λ line. line) (notes_of r lines) end
+    ∙ ap (λ ns. ns ++ all-notes end) (lines-notes r lines)
+    ∙ ap (λ ns. whole.notes_of r (in-order lines) ++ ns) (same-end (run_after r lines) ∙ ap file_notes (lines-run r lines))
 
 -- inputs
 inputs-run : (r : RunState) (inputs : List (List (List EventView))) → run_after_inputs r inputs ≡ whole.run_after_files r (map in-order inputs)

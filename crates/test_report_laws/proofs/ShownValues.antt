@@ -14,7 +14,7 @@ use Rattle.test_report_laws.proofs.ReportValues.{failed-at, name-of, problems-at
 use Rattle.test_report_forms.specs.Entry.{EntryView, FlakyPassed, LinesDisagree, SuiteNotRun, SuiteOver, TestFailed, TestPassed, TestSkipped}
 use Rattle.test_report_forms.specs.Holes.{HoleView, has_hole}
 use Rattle.test_report_forms.specs.Model.{CauseView, FailedView, ProblemView, all_failures, all_problems, cause_line, cause_of_entry, failure_of_entry, failures_of, no_tests_problem, no_tests_ran, output_if_room, problem_of, problem_of_entry, problems_of, report_of, room_after_test, with_room}
-use Rattle.test_report_forms.specs.Values.{failed_values, problem_values, report_values, run_values, values_of_run}
+use Rattle.test_report_forms.specs.Values.{failed_values, problem_values, values_of_run}
 use Rattle.test_report_forms.specs.WholeOutput.{page_limits}
 use Rattle.test_report_forms.specs.Words.{outcome_word}
 use Rattle.test_report_laws.specs.Forms.{HasValues, NamesCauses, failed_name}
@@ -98,16 +98,12 @@ module _ (text : List ℕ) (kind : Hole) (o : Options) (entries : List EntryView
       All-weaker (λ e. IfSome (problem_of_entry e) (λ p. Written p.line)) (λ e. IfSome (cause_line e) Written) (λ e. own-line (cause_of_entry e)) entries
       (unfiltered (λ p. Written p.line) problem_of_entry entries (other-problems (λ p. Written p.line) end.outcome _ problems))
 
-  own-outcome : AreWritten [] (codes "outcome") → Written (outcome_word end.outcome)
-  unfolding report_values run_values
-  own-outcome items = All-head (λ i. Written (text_of (codes "outcome") i)) (values_of_run o entries end) [] items
-
   pub names-causes : AreWritten (codes "failures" ∷ codes "failed" ∷ []) (codes "name") → AreWritten (codes "problems" ∷ codes "problem" ∷ []) (codes "line")
-      → AreWritten [] (codes "outcome") → NamesCauses (hole_text kind) (hole_text kind) entries end text
+      → HasPart text (outcome_word end.outcome) → NamesCauses (hole_text kind) (hole_text kind) entries end text
   names-causes names lines word = record {
     tests =
         All-weaker (λ e. IfSome (failure_of_entry o page_limits.each e) (λ t. Written t.name)) (λ e. IfSome (failed_name e) Written) own-name entries
         (unfiltered (λ t. Written t.name) (failure_of_entry o page_limits.each) entries (failed-names names));
     lines = lines-of (subst (All (λ i. Written (text_of (codes "line") i))) (problems-at (report_of page_limits o entries end)) lines);
-    outcome = own-outcome word;
+    outcome = word;
   }

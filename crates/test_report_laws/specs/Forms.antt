@@ -88,11 +88,11 @@ failed_name (SuiteNotRun suite n of) = None
 failed_name (SuiteOver s) = None
 
 -- a text has the name of each failed test, the line of each disagreement and of each suite whose tests were not all run, and the outcome. Names
--- are written by the first function, and lines and the outcome by the second one
+-- are written by the first function, and lines by the second one
 pub record NamesCauses (name line : List ℕ → List ℕ) (entries : List EntryView) (end : RunEnd) (text : List ℕ) : Type 0 where
   pub tests : All (λ e. IfSome (failed_name e) (λ n. HasPart text (name n))) entries
   pub lines : All (λ e. IfSome (cause_line e) (λ l. HasPart text (line l))) entries
-  pub outcome : HasPart text (line (outcome_word end.outcome))
+  pub outcome : HasPart text (outcome_word end.outcome)
 
 -- What the form for a browser writes names each cause of a run that does not succeed.
 abbrev pub HtmlNamesCauses : Type 0
@@ -144,7 +144,7 @@ HtmlShowsItems = (o : Options) (entries : List EntryView) (end : RunEnd) → Has
 pub record SummaryNames (shown : List FailedView) (entries : List EntryView) (end : RunEnd) (text : List ℕ) : Type 0 where
   pub tests : All (λ t. HasPart text (hole_text hole.Plain t.name)) shown
   pub lines : All (λ e. IfSome (cause_line e) (λ l. HasPart text (hole_text hole.Plain l))) entries
-  pub outcome : HasPart text (hole_text hole.Plain (outcome_word end.outcome))
+  pub outcome : HasPart text (outcome_word end.outcome)
 
 -- What the form for a summary writes names each such cause, of the failed tests those that it shows.
 abbrev pub MarkdownNamesCauses : Type 0

@@ -20,10 +20,10 @@ HasNoHash [] = ⊤
 HasNoHash (x ∷ text) = ((x == 35) ≡ false) × HasNoHash text
 
 abbrev mutual
-  -- a value without booleans and without `null`, whose numbers are numbers of JSON without `#`
+  -- a value without `null`, whose numbers are numbers of JSON without `#`
   pub IsPlainValue : Json → Type 0
   IsPlainValue null = ⊥
-  IsPlainValue (boolean b) = ⊥
+  IsPlainValue (boolean b) = ⊤
   IsPlainValue (number text) = IsNumber text × HasNoHash text
   IsPlainValue (string text) = ⊤
   IsPlainValue (array items) = ItemsArePlain items

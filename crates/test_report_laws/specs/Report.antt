@@ -99,14 +99,14 @@ pub record HasLine (line : List ℕ → List ℕ) (entries : List EntryView) (te
   pub has_line : cause_line entry ≡ Some own
   pub is_there : HasPart text (line own)
 
--- a text says that no test ran. The word for this is written by this function
-pub record SaysNoTests (line : List ℕ → List ℕ) (end : RunEnd) (text : List ℕ) : Type 0 where
+-- a text says that no test ran
+pub record SaysNoTests (end : RunEnd) (text : List ℕ) : Type 0 where
   pub is : RanNoTests end
-  pub said : HasPart text (line (codes "no-tests-run"))
+  pub said : HasPart text (codes "no-tests-run")
 
 -- a text names a reason why a run does not succeed
 abbrev pub NamesReason : (name line : List ℕ → List ℕ) → List EntryView → RunEnd → List ℕ → Type 0
-NamesReason name line entries end text = NamesTest name entries text ⊎ (HasLine line entries text ⊎ SaysNoTests line end text)
+NamesReason name line entries end text = NamesTest name entries text ⊎ (HasLine line entries text ⊎ SaysNoTests end text)
 
 -- the levels and displays of a report for people show failed tests when they end: their lines are written, or why they failed is shown at once
 abbrev pub shows_failures : Options → Bool

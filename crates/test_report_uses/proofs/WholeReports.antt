@@ -17,7 +17,7 @@ if_known (Some bytes) f p = f bytes p
 module _ {F : Type 0} (line : F → List EntryView → List ℕ) (last : F → List EntryView → RunEnd → List ℕ) (Knows : F → List EntryView → Type 0) where
   -- the report of one input was written
   abbrev pub IsWritten : ℕ → F → InputView → RunEnd → Option (List ℕ) → Option (List ℕ) → Type 0
-  IsWritten slow form input end before behind = (text : List ℕ) × IsReport slow (line form) (last form) (input ∷ []) text end × Appends before behind text
+  IsWritten slow form input end before after = (text : List ℕ) × IsReport slow (line form) (last form) (input ∷ []) text end × Appends before after text
 
   -- the report of one input was written, if only that input was read and the report was then finished
   pub is-written : (slow : ℕ) (form : F) (old new : Report F) (input : InputView) (end : RunEnd) (a b c : Option (List ℕ))

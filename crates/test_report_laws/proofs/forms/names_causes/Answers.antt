@@ -28,4 +28,4 @@ pub returns-clause-html : goal.returns-clause-html
 returns-clause-html c = html-names-causes c.html_shows.ensures.values
 
 pub returns-clause-markdown : goal.returns-clause-markdown
-returns-clause-markdown c = markdown-names-causes c.markdown_shows.ensures.values
+returns-clause-markdown c = markdown-names-causes c.markdown_shows.ensures.values c.markdown_shows.ensures.end
