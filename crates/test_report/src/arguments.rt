@@ -50,7 +50,7 @@ pub(crate) enum BadValue<'a> {
     /// The value of `--limit`, which is neither a number nor `none`.
     Limit(&'a str),
 
-    /// The value of `--slow`, which is not a number of seconds.
+    /// The value of `--slow`, which is no number of seconds, or has more than nine digits before its point.
     Seconds(&'a str),
 }
 
@@ -61,7 +61,10 @@ impl fmt::Display for BadValue<'_> {
                 f,
                 "--limit {text}: neither a number of bytes nor `none`"
             ),
-            BadValue::Seconds(text) => write!(f, "--slow {text}: not a number of seconds"),
+            BadValue::Seconds(text) => write!(
+                f,
+                "--slow {text}: not a number of seconds such as 60 or 2.5, with at most nine digits before the point"
+            ),
         }
     }
 }
@@ -136,7 +139,7 @@ fn with_display<'a>(alloc: Global, command: Command<'a>) -> Result<Command<'a>, 
         .long("slow")
         .value_name("SECONDS")
         .help(
-            "Take a test for slow if its time is at least SECONDS, a decimal number [default: 60]",
+            "Count a test as slow if its time is at least SECONDS, a decimal number [default: 60]",
         );
     let raw = Arg::new(alloc, "raw")
         .long("raw")
