@@ -52,14 +52,21 @@ fn name(alloc: Global) -> Result<Option<String>, AllocError> {
     Ok(Some(String::from_str(alloc, "TERM")?))
 }
 
+/// Describes output, or returns `None` if memory runs out.
+fn description(
+    alloc: Global,
+    output: ChildExecutionOutput,
+    name: Option<String>,
+) -> Option<ChildExecutionOutputDescription<LiveSpec>> {
+    ChildExecutionOutputDescription::from_output(alloc, output, name).ok()
+}
+
 /// Returns the description of [`left`].
 pub(crate) fn described(
     alloc: Global,
 ) -> Result<ChildExecutionOutputDescription<LiveSpec>, AllocError> {
     let output = left(alloc)?;
-    ChildExecutionOutputDescription::from_output(alloc, output, name(alloc)?).map_err(
-        |_| AllocError,
-    )
+    description(alloc, output, name(alloc)?).ok_or(AllocError)
 }
 
 /// Returns true if the output is that of [`left`].
@@ -92,13 +99,22 @@ fn is_described(
     described: &ChildExecutionOutputDescription<LiveSpec>,
     end: &ExecutionResultDescription,
 ) -> bool {
-    match described {
-        ChildExecutionOutputDescription::Output {
-            result: Some(result),
-            output,
-            errors: Some(errors),
-        } => result == end && is_left_output(output) && are_left_errors(errors),
-        _ => false,
+    let ChildExecutionOutputDescription::Output {
+        result,
+        output,
+        errors: Some(errors),
+    } = described
+    else {
+        return false;
+    };
+    is_result(result, end) && is_left_output(output) && are_left_errors(errors)
+}
+
+/// Returns true if there is a result and it is this one.
+fn is_result(found: &Option<ExecutionResultDescription>, end: &ExecutionResultDescription) -> bool {
+    match found {
+        Some(found) => found == end,
+        None => false,
     }
 }
 
@@ -123,14 +139,15 @@ fn is_described_without_errors(
     described: &ChildExecutionOutputDescription<LiveSpec>,
     end: &ExecutionResultDescription,
 ) -> bool {
-    match described {
-        ChildExecutionOutputDescription::Output {
-            result: Some(result),
-            output,
-            errors: None,
-        } => result == end && is_left_output(output),
-        _ => false,
-    }
+    let ChildExecutionOutputDescription::Output {
+        result,
+        output,
+        errors,
+    } = described
+    else {
+        return false;
+    };
+    errors.is_none() && is_result(result, end) && is_left_output(output)
 }
 
 /// Returns true if this describes a process that was not started because of the error `s`.
@@ -145,27 +162,22 @@ fn is_not_started(described: &ChildExecutionOutputDescription<LiveSpec>) -> bool
 fn from_ended(alloc: Global) -> Result<Outcome, AllocError> {
     let end = ExecutionResultDescription::from_status(END, name(alloc)?);
     let output = left_with(alloc, None)?;
-    let name = name(alloc)?;
-    Ok(
-        match ChildExecutionOutputDescription::from_output(alloc, output, name) {
-            Ok(described) => Outcome::of_answer(
-                is_described_without_errors(&described, &end),
-                "another description",
-            ),
-            Err(_) => Outcome::OutOfMemory,
-        },
-    )
+    Ok(match description(alloc, output, name(alloc)?) {
+        Some(described) => Outcome::of_answer(
+            is_described_without_errors(&described, &end),
+            "another description",
+        ),
+        None => Outcome::OutOfMemory,
+    })
 }
 
 /// Describes that a process was not started.
 fn from_not_started(alloc: Global) -> Result<Outcome, AllocError> {
     let output = ChildExecutionOutput::StartError(ChildStartError::Spawn(error(alloc, "s")?));
-    Ok(
-        match ChildExecutionOutputDescription::from_output(alloc, output, None) {
-            Ok(described) => Outcome::of_answer(is_not_started(&described), "another description"),
-            Err(_) => Outcome::OutOfMemory,
-        },
-    )
+    Ok(match description(alloc, output, None) {
+        Some(described) => Outcome::of_answer(is_not_started(&described), "another description"),
+        None => Outcome::OutOfMemory,
+    })
 }
 
 pub(crate) fn from_output_without_errors(alloc: Global) -> Result<Outcome, AllocError> {
