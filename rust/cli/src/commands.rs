@@ -185,7 +185,7 @@ fn with_options(command: Command) -> Command {
                 .long("slow")
                 .value_name("SECONDS")
                 .value_hint(ValueHint::Other)
-                .help("Take a test for slow if its time is at least SECONDS, a decimal number [default: 60]"),
+                .help("Count a test as slow if its time is at least SECONDS, a decimal number [default: 60]"),
         )
         .arg(
             Arg::new("slowest")

@@ -153,7 +153,7 @@ fn slow_of(matches: &ArgMatches) -> Result<u64, Failure> {
         return Ok(SLOW);
     };
     microseconds(seconds.as_bytes()).ok_or_else(|| {
-        let message = format!("--slow {seconds}: not a number of seconds");
+        let message = format!("--slow {seconds}: not a number of seconds such as 60 or 2.5, with at most nine digits before the point");
         Failure::new(BAD_ARGUMENT, message)
     })
 }

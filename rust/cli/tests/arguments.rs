@@ -71,7 +71,10 @@ fn test_report_refuses_numbers() {
             ["--limit", "18446744073709551616"],
             "neither a number of bytes nor `none`",
         ),
-        (["--slow", "1e3"], "not a number of seconds"),
+        (
+            ["--slow", "1e3"],
+            "not a number of seconds such as 60 or 2.5, with at most nine digits before the point",
+        ),
     ];
     for ([option, value], what) in refused {
         let output = run("test-report", &[option, value], PASSED.as_bytes());

@@ -35,7 +35,7 @@ and *more*
 </system-out>
 </testcase>
 <testcase name="suite 1: 1 of 3 tests were not run" classname="test-report">
-<error message="suite 1: 1 of 3 tests were not run" type="not run"></error>
+<error message="suite 1: 1 of 3 tests were not run" type="not run">suite 1: 1 of 3 tests were not run</error>
 </testcase>
 </testsuite>
 <testsuite name="suite 2" tests="1" failures="0" errors="1" skipped="0">

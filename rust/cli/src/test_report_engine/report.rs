@@ -11,7 +11,7 @@ use crate::test_report_forms::entry::Entry;
 use crate::test_report_forms::files::{FileForms, FileTexts};
 use crate::test_report_forms::form::Form;
 use crate::test_report_run::error::RunError;
-use crate::test_report_run::note::{CommandEnd, Note, RunEnd};
+use crate::test_report_run::note::{CommandEnd, Disagreement, Note, RunEnd};
 use crate::test_report_run::run::TestRun;
 use crate::test_report_run::suite_names::SuiteNames;
 use bstr::ByteSlice;
@@ -214,10 +214,22 @@ impl<F: Form> Report<F> {
             self.on_line(begun, sink, others)?;
         }
         let notes = notes_of_end(&mut self.run, command)?;
-        self.write(notes.as_slice(), sink)
+        self.write_parts(notes.as_slice(), sink)
     }
 
-    /// Writes the text of the notes of a line, or of the end of an input, and flushes the sink if there is text.
+    /// Writes the text of the notes of the end of an input, part after part, and flushes the sink if there is text.
+    fn write_parts<W: Sink>(&mut self, notes: &[Note], sink: &mut W) -> Result<(), Fault> {
+        let mut rest = notes;
+        while let Some(size) = part_size(rest) {
+            let (part, after) = rest.split_at(size);
+            self.write(part, sink)?;
+            rest = after;
+        }
+        self.write(rest, sink)
+    }
+
+    /// Writes the text of the notes of a line, or of a part of the end of an input, and flushes the sink if there is
+    /// text.
     fn write<W: Sink>(&mut self, notes: &[Note], sink: &mut W) -> Result<(), Fault> {
         let text = self.lines_of(notes);
         if text.is_empty() {
@@ -227,17 +239,17 @@ impl<F: Form> Report<F> {
         Ok(())
     }
 
-    /// Passes the notes of a line, or of the end of an input, to the forms, and returns the text that is written at
-    /// once: the text of each note, and then what the form writes after these texts.
+    /// Passes the notes of a line, or of a part of the end of an input, to the forms, and returns the text that is
+    /// written at once: the text of each note, and then what the form writes after these texts.
     fn lines_of(&mut self, notes: &[Note]) -> String {
         let mut text = String::new();
-        let mut behind = String::new();
+        let mut after_line = String::new();
         for note in notes {
             let entry = Entry::of(note);
             self.files.on_entry(&entry);
-            self.form.on_entry(&entry, &mut text, &mut behind);
+            self.form.on_entry(&entry, &mut text, &mut after_line);
         }
-        text.push_str(behind.as_str());
+        text.push_str(after_line.as_str());
         text
     }
 }
@@ -260,4 +272,32 @@ fn notes_of_end(run: &mut TestRun, command: Option<&CommandEnd>) -> Result<Vec<N
         run.on_command_ended(end);
     }
     run.end_file()
+}
+
+/// Returns how many notes the first part has, or `None` if no note ends a part.
+fn part_size(notes: &[Note]) -> Option<usize> {
+    part_end(notes).map(|last| last + 1)
+}
+
+/// Returns the offset of the last note of the first part, or `None` if no note ends a part.
+fn part_end(notes: &[Note]) -> Option<usize> {
+    notes.iter().position(ends_part)
+}
+
+/// Returns true for the last note of a part of what the end of an input makes known: the numbers of a suite, or a
+/// disagreement of no suite.
+fn ends_part(note: &Note) -> bool {
+    match note {
+        Note::Suite(_) => true,
+        Note::Disagreement(disagreement) => is_of_no_suite(disagreement),
+        Note::Test(_) | Note::Flaky(_) | Note::NotRun(_) => false,
+    }
+}
+
+/// Returns true for a failure of cargo, an input without events, and a command that failed.
+fn is_of_no_suite(disagreement: &Disagreement) -> bool {
+    matches!(
+        disagreement,
+        Disagreement::Cargo(_) | Disagreement::NoEvent | Disagreement::Command(_)
+    )
 }

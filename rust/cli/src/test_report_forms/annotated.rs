@@ -29,9 +29,9 @@ impl AnnotatedForm {
 }
 
 impl Form for AnnotatedForm {
-    fn on_entry(&mut self, entry: &Entry<'_>, text: &mut String, behind: &mut String) {
-        self.text.on_entry(entry, text, behind);
-        self.github.on_entry(entry, behind, text);
+    fn on_entry(&mut self, entry: &Entry<'_>, text: &mut String, after_line: &mut String) {
+        self.text.on_entry(entry, text, after_line);
+        self.github.on_entry(entry, after_line, text);
     }
 
     fn on_end(&mut self, end: &RunEnd, text: &mut String) {

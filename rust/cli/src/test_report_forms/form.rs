@@ -8,9 +8,9 @@ use crate::test_report_run::note::RunEnd;
 /// what it needs for the end.
 pub trait Form {
     /// Takes the next entry, and appends its text. Text that belongs after the texts of all entries of the same
-    /// line of the input goes to `behind`. The only error is that memory runs out. After an error nothing is
-    /// promised about the form, the text and `behind`.
-    fn on_entry(&mut self, entry: &Entry<'_>, text: &mut String, behind: &mut String);
+    /// line of the input goes to `after_line`. The only error is that memory runs out. After an error nothing is
+    /// promised about the form, the text and `after_line`.
+    fn on_entry(&mut self, entry: &Entry<'_>, text: &mut String, after_line: &mut String);
 
     /// Appends the text that is written at the end of the run. Errors are those of `on_entry`.
     fn on_end(&mut self, end: &RunEnd, text: &mut String);

@@ -6,12 +6,14 @@ use crate::test_report_forms::commands::is_command;
 use crate::test_report_forms::entry::Entry;
 use crate::test_report_forms::form::Form;
 use crate::test_report_forms::json_values::{
-    failed_json, no_tests_json, open_suite_json, problem_json, report_json, suite_json, test_json,
+    failed_json, no_tests_json, open_suite_json, passed_json, problem_json, report_json,
+    skipped_json, suite_json,
 };
 use crate::test_report_forms::model::no_tests_ran;
 use crate::test_report_forms::open_suites::OpenSuites;
 use crate::test_report_forms::open_suites::name::name_of;
 use crate::test_report_forms::options::Options;
+use crate::test_report_forms::skipped_test::skip_reason;
 use crate::test_report_run::note::{RunEnd, SuiteNote};
 use std::rc::Rc;
 
@@ -40,10 +42,13 @@ impl JsonForm {
     fn take(&mut self, entry: &Entry<'_>) {
         match entry {
             Entry::Passed(test) => {
-                self.add(name_of(&test.suite), test_json(test, "passed"));
+                self.add(name_of(&test.suite), passed_json(test));
             }
             Entry::Skipped(test) => {
-                self.add(name_of(&test.suite), test_json(test, "skipped"));
+                self.add(
+                    name_of(&test.suite),
+                    skipped_json(test, skip_reason(&test.outcome)),
+                );
             }
             Entry::Failed { test, failure, why } => {
                 let json = failed_json(test, failure, why, self.options);

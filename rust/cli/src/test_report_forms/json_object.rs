@@ -52,6 +52,11 @@ impl JsonObject {
         members.push_str(&format!("{number}"));
     }
 
+    /// Adds a member that is true or false.
+    pub(crate) fn flag(&mut self, name: &str, flag: bool) {
+        self.value(name, if flag { "true" } else { "false" });
+    }
+
     /// Adds a time in seconds, if it is known.
     pub(crate) fn time(&mut self, time: Option<u64>) {
         if let Some(micros) = time {

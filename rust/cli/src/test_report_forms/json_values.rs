@@ -17,9 +17,16 @@ use crate::test_report_run::note::{
 };
 use deodarsieve::RunStats;
 
-/// Returns a test that did not fail, with this result.
-pub(crate) fn test_json(test: &TestNote, word: &str) -> String {
-    test_object(test, word).into_json()
+/// Returns a test that passed.
+pub(crate) fn passed_json(test: &TestNote) -> String {
+    test_object(test, "passed").into_json()
+}
+
+/// Returns a test that was skipped, with the reason if there is one.
+pub(crate) fn skipped_json(test: &TestNote, reason: Option<&str>) -> String {
+    let mut object = test_object(test, "skipped");
+    object.option("reason", reason);
+    object.into_json()
 }
 
 /// Returns a test that failed, with all of its output.
@@ -45,6 +52,7 @@ fn test_object(test: &TestNote, word: &str) -> JsonObject {
     object.text("written_name", test.name.as_str());
     object.text("result", word);
     object.number("attempts", test.attempts as u128);
+    object.flag("slow", test.slow);
     object.time(test.time);
     object
 }

@@ -129,7 +129,7 @@ impl JunitForm {
 /// Adds a test case that says that no test ran.
 fn with_no_tests(mut own: Vec<Case>) -> Vec<Case> {
     let line = String::from(NO_TESTS);
-    own.push(Case::problem(line, "no tests", String::new()));
+    own.push(Case::problem(line, "no tests", None));
     own
 }
 

@@ -126,12 +126,17 @@ impl Case {
 
     /// Returns the test case of a cause.
     pub(crate) fn of_cause(cause: Cause<'_>) -> Case {
-        let why = shown_reason(cause.why).unwrap_or_default();
+        let why = shown_reason(cause.why);
         Case::problem(cause.line, cause.kind, why)
     }
 
-    /// Returns the test case of a problem of the run. Its line is its name, and `why` explains it.
-    pub(crate) fn problem(line: String, type_of: &'static str, why: String) -> Case {
+    /// Returns the test case of a problem of the run. Its line is its name. Its text is what explains it or, if nothing
+    /// does, the line again, because some readers show only the text of an error.
+    pub(crate) fn problem(line: String, type_of: &'static str, why: Option<String>) -> Case {
+        let why = match why {
+            Some(why) => why,
+            None => String::from(line.as_str()),
+        };
         let reason = Reason {
             is_error: true,
             message: String::from(line.as_str()),

@@ -4,7 +4,7 @@
 /// The summary, with places for the values of `summary_values`. A value outside of `<pre>` has `*` before its name, so
 /// that it stays on its line and in its cell. A text of the input with an `@` is in `<code>` there, so that GitHub takes
 /// nothing in it for the name of a user. A reader drops the line feed after `<pre>`.
-pub(crate) const MARKDOWN: &str = r#"## Test report: {{*outcome}}
+pub(crate) const MARKDOWN: &str = r#"## Test report: {{#ran}}{{*outcome}}{{/ran}}{{#no_tests}}no-tests-run{{/no_tests}}
 
 {{*finished}} tests run: {{*passed}} passed ({{*flaky}} flaky{{#slow}}, {{*count}} slow{{/slow}}), {{*failed}} failed ({{*timed_out}} timed out, {{*crashed}} crashed), {{*skipped}} skipped, {{*not_run}} not run{{#time}}, in {{*seconds}}s{{/time}}
 

@@ -2,14 +2,19 @@
 //! The values of a finished report for the summary of a workflow, which shows only the first of many failed tests.
 //!
 //! They are those of `report_values` for the run, its problems and its failed tests. If there are other failed tests,
-//! `more` has their number, as `count`.
+//! `more` has their number, as `count`. `ran` has the `outcome`; if no test ran, there is an item `no_tests` without
+//! values instead.
 
 use crate::template::{Part, Value, parse_template, push_item, push_section, render};
 use crate::test_report_forms::failed_test::FailedTest;
 use crate::test_report_forms::markdown_template::FAILED;
-use crate::test_report_forms::model::ReportModel;
-use crate::test_report_forms::values::{failed_values, one_text, problem_items, run_values};
+use crate::test_report_forms::model::{ReportModel, no_tests_ran};
+use crate::test_report_forms::summary::outcome_text;
+use crate::test_report_forms::values::{
+    failed_values, one_text, one_word, problem_items, run_values,
+};
 use crate::test_report_run::note::RunEnd;
+use deodarsieve::RunOutcome;
 
 /// The summary shows failed tests until their rows and details have this number of bytes. GitHub shows a summary of at most
 /// 1 MiB.
@@ -38,6 +43,7 @@ pub(crate) fn summary_values(model: ReportModel, end: &RunEnd) -> Vec<Value> {
     );
     push_section(&mut values, "failures", shown);
     push_more(&mut values, more);
+    push_outcome(&mut values, end.outcome);
     values
 }
 
@@ -48,6 +54,17 @@ fn push_more(values: &mut Vec<Value>, more: usize) {
     }
     let count = format!("{more}");
     push_item(values, "more", one_text("count", count));
+}
+
+/// Adds the word for the outcome. The template itself has the word for a run in which no test ran: its hyphens would
+/// be references in a value.
+fn push_outcome(values: &mut Vec<Value>, outcome: RunOutcome) {
+    if no_tests_ran(outcome) {
+        push_item(values, "no_tests", Vec::new());
+    } else {
+        let word = one_word("outcome", outcome_text(outcome));
+        push_item(values, "ran", word);
+    }
 }
 
 /// Returns the failed tests that the summary shows.

@@ -98,16 +98,16 @@ td .bar { margin-top: 0.45rem; }
 </details>
 {{/output}}</details>
 {{/failed}}</section>
-{{/failures}}<section>
+{{/failures}}{{#suites}}<section>
 <h2>Suites</h2>
 <table>
 <thead><tr><th scope="col">Suite</th><th scope="col">Tests</th><th scope="col" class="time">Time</th></tr></thead>
-<tbody>{{#suites}}
+<tbody>
 {{#suite}}<tr><th scope="row">{{name}}</th><td>{{#bar}}<div class="bar" aria-hidden="true">{{#part}}<span class="{{class}}" style="flex-grow: {{number}}">{{number}}</span>{{/part}}</div>{{/bar}}<div class="words">{{words}}</div></td><td class="time">{{#time}}{{seconds}}s{{/time}}{{^time}}–{{/time}}</td></tr>
-{{/suite}}{{/suites}}</tbody>
+{{/suite}}</tbody>
 </table>
 </section>
-{{#slowest}}<section>
+{{/suites}}{{#slowest}}<section>
 <h2>Slowest tests</h2>
 <table>
 <thead><tr><th scope="col">Test</th><th scope="col">Share of the slowest</th><th scope="col" class="time">Time</th></tr></thead>

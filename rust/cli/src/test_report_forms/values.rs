@@ -67,7 +67,7 @@ pub(crate) fn one_text(name: &'static str, text: String) -> Vec<Value> {
 }
 
 /// Returns values with one text, which is a word of the report.
-fn one_word(name: &'static str, word: &'static str) -> Vec<Value> {
+pub(crate) fn one_word(name: &'static str, word: &'static str) -> Vec<Value> {
     one_text(name, String::from(word))
 }
 

@@ -19,13 +19,13 @@ const SLOW: u64 = 60_000_000;
 /// Appends what a form writes of the notes of a line. Files that have no form take them, too.
 fn push_notes<F: Form>(notes: &[Note], form: &mut F, text: &mut String) {
     let mut files = FileForms::none();
-    let mut behind = String::new();
+    let mut after_line = String::new();
     for note in notes {
         let entry = Entry::of(note);
         files.on_entry(&entry);
-        form.on_entry(&entry, text, &mut behind);
+        form.on_entry(&entry, text, &mut after_line);
     }
-    text.push_str(&behind);
+    text.push_str(&after_line);
 }
 
 /// Returns the report of [`RUN`], made call by call.

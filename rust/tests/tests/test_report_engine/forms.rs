@@ -46,7 +46,7 @@ const JUNIT: &str = r#"<?xml version="1.0" encoding="UTF-8"?>
 <failure message="why" type="test failure">why</failure>
 </testcase>
 <testcase name="suite 1: 1 of 2 tests were not run" classname="test-report">
-<error message="suite 1: 1 of 2 tests were not run" type="not run"></error>
+<error message="suite 1: 1 of 2 tests were not run" type="not run">suite 1: 1 of 2 tests were not run</error>
 </testcase>
 </testsuite>
 </testsuites>
@@ -80,7 +80,7 @@ const JSON: &str = "{\"outcome\":\"failed\",\
      \"numbers\":{\"finished\":1,\"passed\":0,\"flaky\":0,\"slow\":0,\"failed\":1,\"timed_out\":0,\"crashed\":0,\
      \"skipped\":0,\"not_run\":1},\
      \"tests\":[{\"name\":\"a\",\"written_name\":\"a\",\"result\":\"failed\",\"attempts\":1,\
-     \"short\":\"why\",\"why\":\"why\"}]}],\
+     \"slow\":false,\"short\":\"why\",\"why\":\"why\"}]}],\
      \"problems\":[{\"kind\":\"not run\",\"suite\":\"suite 1\",\
      \"line\":\"suite 1: 1 of 2 tests were not run\"}]}\n";
 
