@@ -124,11 +124,11 @@ NO_TESTS = {
     "github": (Parts(["::notice::", "no-tests-run"]), Parts(["::notice::", "no-tests-run"])),
     "names": ("", ""),
     "junit": (
-        Parts(['tests="1" failures="0" errors="1"', '<error message="no test ran" type="no tests">']),
+        Parts(['tests="1" failures="0" errors="1"', '<error message="no test ran" type="no tests">no test ran</error>']),
         Parts(['tests="0" failures="0" errors="0"'], ["<testcase"]),
     ),
     "html": (Parts(["<h1>", "no-tests-run", "</h1>"]), Parts(["<h1>", "no-tests-run", "</h1>"])),
-    "markdown": (Parts(["## Test report: no&#45;tests&#45;run\n"]), Parts(["## Test report: no&#45;tests&#45;run\n"])),
+    "markdown": (Parts(["## Test report: no-tests-run\n"]), Parts(["## Test report: no-tests-run\n"])),
     "json": (Parts(['{"outcome":"no-tests-run",']), Parts(['{"outcome":"no-tests-run",'])),
 }
 
@@ -147,7 +147,7 @@ GREEN_PARTS = {
     "github": Parts(["::notice::", "success"], ["::error"]),
     "names": "",
     "junit": Parts(['tests="1" failures="0" errors="0"'], ["<failure"]),
-    "html": Parts(["<h1>", "success", "</h1>"]),
+    "html": Parts(["<h1>", "success", "</h1>", "<section>\n<h2>Suites</h2>\n<table>", '<th scope="row">suite 1</th>']),
     "markdown": Parts(["## Test report: success"], ["FAIL"]),
     "json": Parts(['{"outcome":"success",', '"passed":1,', '"written_name":"adds","result":"passed",'], ['"result":"failed"']),
 }
@@ -158,7 +158,7 @@ UNEXPLAINED_PARTS = {
     "text": with_line(NO_REASON, GREEN_TEXT),
     "github": Parts([f"::error::{NO_REASON}\n", "::notice::", "failed"]),
     "names": "",
-    "junit": Parts(['tests="2" failures="0" errors="1"', f'<error message="{NO_REASON}" type="disagreement">']),
+    "junit": Parts(['tests="2" failures="0" errors="1"', f'<error message="{NO_REASON}" type="disagreement">{NO_REASON}</error>']),
     "html": Parts(["<h1>", "failed", "</h1>", f"<li>{NO_REASON}</li>"]),
     "markdown": Parts(["## Test report: failed", "the command ended with status 7&#44; and no line says why"]),
     "json": Parts(['{"outcome":"failed",', '"passed":1,', f'"{NO_REASON}"'], ['"result":"failed"']),
@@ -195,6 +195,8 @@ def forms():
             shown = "\\u001b" if form == "json" else "u{1b}"
             yield Row(f"{form}, --raw", [*option, "--raw"], COLOURED, 1, Parts([shown], ["\x1b"]))
     yield Row("text is the default", [], RED, 1, RED_TEXT)
+    yield Row("a page without suites", ["--format", "html"], "no event\n", 1, Parts(["<h1>", "failed"], ["<h2>Suites", "<table>"]),
+              "no event\n")
 
 
 def several_files():
@@ -362,8 +364,8 @@ def slow_tests():
     yield Row("a slow test when it ends", passed_level, text, 0, Parts(["PASS suite 1 adds\nPASS ["], ["SLOW"]))
     for form, open_hole in (("html", "(0 flaky, 1 slow)"), ("markdown", "(0 flaky, 1 slow)"), ("json", '"flaky":0,"slow":1,')):
         yield Row(f"a slow test in {form}", ["--format", form], text, 0, Parts([open_hole]))
-    for value in ("late", "1e3", ".5", "1.", ""):
-        message = f"test-report: --slow {value}: not a number of seconds\n"
+    for value in ("late", "1e3", ".5", "1.", "", "1000000000"):
+        message = f"test-report: --slow {value}: not a number of seconds such as 60 or 2.5, with at most nine digits before the point\n"
         yield Row(f"--slow {value!r}", ["--slow", value], "", 2, "", message)
 
 
@@ -386,6 +388,15 @@ def annotations():
     whole = ["--annotations", "github", "--output", "whole"]
     yield Row("an annotation has a limit", whole, LONG, 1, cut)
     yield Row("an annotation of all", [*whole, "--limit", "none"], LONG, 1, Parts(["%0A" + LONG_TEXT + "\n"]))
+    crash = "its process ended before it did"
+    of_suite = f"CRASH suite 1 pays\n    {crash}\n::error title=suite 1 pays::suite 1 pays%0A{crash}\n"
+    outside = f"CRASH adds\n    {crash}\n1 tests started outside of a suite\n"
+    errors = f"::error title=adds::adds%0A{crash}\n::error::1 tests started outside of a suite\n"
+    yield Row("annotations of suites that end with the file", ["--annotations", "github"],
+              start("adds") + started(1) + start("pays"), 1, Parts([of_suite + outside + errors + rule]))
+    early = ["suite 1 ended early\n", "suite 1: 2 of 2 tests were not run\n"]
+    yield Row("annotations of a suite that ends early without a crash", ["--annotations", "github"], started(2), 1,
+              Parts(["".join(early) + "".join(f"::error::{line}" for line in early) + rule]))
     yield Row("other annotations", ["--annotations", "gitlab"], "", 2, "", Parts(["error: "]))
 
 
