@@ -24,7 +24,7 @@ ended-before old t s =
     ap (λ (notes : List NoteView). step (without_tests t.run s) notes)
     (append_assoc old t.notes (early_notes t.run.others (cancelled_by t.run.cancel s) (tests_in t.run s)))
 
-all-before : (old : List NoteView) (t : Step) (suites : List SuiteState)
+pub all-before : (old : List NoteView) (t : Step) (suites : List SuiteState)
     → fold ended_early (with_before old t) suites ≡ with_before old (fold ended_early t suites)
 all-before old t [] = refl
 all-before old t (s ∷ suites) =

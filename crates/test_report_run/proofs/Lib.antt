@@ -2,8 +2,10 @@ pub mod Attempts
 pub mod Boundaries
 pub mod Crashes
 pub mod Ends
+pub mod EventsFit
 pub mod FileEnds
 pub mod Finishes
+pub mod Fits
 pub mod FirstTests
 pub mod Firsts
 pub mod HeadingViews
@@ -15,6 +17,7 @@ pub mod LongestEnds
 pub mod OpenSteps
 pub mod OrderSteps
 pub mod Places
+pub mod RunFits
 pub mod Runs
 pub mod Takes
 pub mod Views

@@ -1,6 +1,7 @@
 pub mod Counted
 pub mod Ended
 pub mod Events
+pub mod Fits
 pub mod Headings
 pub mod InOrder
 pub mod Keys
@@ -15,6 +16,7 @@ pub mod Over
 pub mod Prints
 pub mod Progress
 pub mod Run
+pub mod RunFits
 pub mod Running
 pub mod Said
 pub mod Suite

@@ -1,9 +1,11 @@
 //! The ends of the tests of a suite.
 
 ghost use Rattle.std.specs.Prelude.{◌≡◌, ◌++◌, [], IfOk, OnOk, map, option_map};
+ghost use Rattle.run_events_stats.specs.Counters.{TestCountersFit};
 ghost use Rattle.test_report_events.specs.Event.{test_end_view};
 ghost use Rattle.test_report_events.specs.declared.event.TestResult.TheVariants as ended;
 ghost use Rattle.test_report_run.specs.Ended as spec;
+ghost use Rattle.test_report_run.specs.Fits.{OnlyMemory, SuiteFits};
 ghost use Rattle.test_report_run.specs.Note.{failure_view, note_view, text_view};
 ghost use Rattle.test_report_run.specs.Suite.{over_view, state_of};
 
@@ -46,7 +48,8 @@ fn failure_of(alloc: Global, details: TestDetails<'_>) -> Result<Failure, AllocE
 
 impl Suite {
     /// Takes the end of a test, and adds its note. `order` is the number of tests that started before it. A
-    /// test that passed after several attempts is kept, and has another note when its suite is over.
+    /// test that passed after several attempts is kept, and has another note when its suite is over. Fails only if
+    /// memory runs out, or a number of the suite does not fit.
     pub(crate) fn on_end(
         &mut self,
         alloc: Global,
@@ -61,6 +64,8 @@ impl Suite {
         ensures tells { OnOk result (map note_view notes.new.items ≡ map note_view notes.old.items
             ++ spec.end_notes (state_of self.old) (over_view test)
             (test_end_view [] end details.entry)) }
+        ensures room { SuiteFits (spec.after_end (state_of self.old)
+            (over_view test) order (test_end_view [] end details.entry)) → OnlyMemory result }
         ensures number { self.new.name.number ≡ self.old.name.number }
         ensures key { text_view self.new.name.key ≡ text_view self.old.name.key }
     {
@@ -78,14 +83,16 @@ impl Suite {
         let outcome = TestOutcome::Passed { output };
         if test.attempts > 1 {
             notes.push(Note::Flaky(self.test_note(test.duplicate()?, outcome)?))?;
-            return self.on_flaky(alloc, test, order, details);
+            self.on_flaky(alloc, test, order, details)?;
+            return Ok(());
         }
         count(&mut self.stats, Finish::Passed, 1, test.slow)?;
         notes.push(self.note(test, outcome)?)?;
         Ok(())
     }
 
-    /// Takes the end of a test that was not running.
+    /// Takes the end of a test that was not running. Fails only if memory runs out, or a number of the suite does not
+    /// fit.
     pub(crate) fn on_stray_end(
         &mut self,
         alloc: Global,
@@ -99,6 +106,8 @@ impl Suite {
         ensures tells { OnOk result (map note_view notes.new.items ≡ map note_view notes.old.items
             ++ spec.stray_notes (state_of self.old) (over_view test)
             (test_end_view [] end details.entry)) }
+        ensures room { SuiteFits (spec.after_stray (state_of self.old)
+            (over_view test) (test_end_view [] end details.entry)) → OnlyMemory result }
         ensures number { self.new.name.number ≡ self.old.name.number }
         ensures key { text_view self.new.name.key ≡ text_view self.old.name.key }
     {
@@ -119,6 +128,8 @@ impl Suite {
         ensures tells { OnOk result (map note_view notes.new.items ≡ map note_view notes.old.items
             ++ spec.failed_note (state_of self.old) (over_view test)
             (test_end_view [] ended.Failed details.entry)) }
+        ensures room { TestCountersFit (spec.after_failed (state_of self.old)
+            (over_view test) (test_end_view [] ended.Failed details.entry)).stats → OnlyMemory result }
         ensures number { self.new.name.number ≡ self.old.name.number }
         ensures key { text_view self.new.name.key ≡ text_view self.old.name.key }
     {
@@ -141,7 +152,7 @@ impl Suite {
         test: OverTest,
         order: usize,
         details: TestDetails<'_>,
-    ) -> Result<(), RunError>
+    ) -> Result<(), AllocError>
         ensures takes { OnOk result (state_of self.new ≡ spec.after_flaky (state_of self.old)
             (over_view test) order (test_end_view [] ended.Ok details.entry)) }
         ensures number { self.new.name.number ≡ self.old.name.number }

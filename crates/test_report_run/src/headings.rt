@@ -4,7 +4,6 @@ ghost use Rattle.std.specs.Prelude.{◌≡◌, [], IfOk, OnOk, option_map, strin
 ghost use Rattle.test_report_run.specs.Headings.{headings_of, number_of, numbers_view, paths_of, shown_by, with_heading, with_path};
 ghost use Rattle.test_report_run.specs.Note.{text_view};
 
-use crate::error::RunError;
 use std::alloc::{AllocError, Global};
 use std::collections::BTreeMap;
 
@@ -32,12 +31,12 @@ impl Headings {
 
     /// Takes a heading, and returns the name of the suites that follow it. If headings with this name had
     /// other paths before they had this one, the name is followed by the number of the path, as in ` (2)`.
-    pub(crate) fn on_heading(
+    pub(crate) fn take_heading(
         &mut self,
         alloc: Global,
         name: &str,
         path: Option<&str>,
-    ) -> Result<String, RunError>
+    ) -> Result<String, AllocError>
         ensures shows { IfOk result (λ shown. string_bytes shown ≡ shown_by (headings_of self.old)
             name.now (option_map (λ path. path.now) path.entry)) }
         ensures takes { OnOk result (headings_of self.new ≡ with_heading (headings_of self.old)

@@ -1,12 +1,14 @@
 //! A test run that is followed line by line.
 
-ghost use Rattle.std.specs.Prelude.{◌≡◌, ◌++◌, ◌∷◌, [], IfOk, OnOk, if◌then◌else◌, map, option_map, option_to_list};
+ghost use Rattle.std.specs.Prelude.{◌≡◌, ◌++◌, ◌∷◌, [], IfOk, IsOk, OnOk, if◌then◌else◌, map, option_map, option_to_list};
 ghost use Rattle.test_report_events.specs.Content.{events_of};
 ghost use Rattle.test_report_events.specs.Event.{event_view};
 ghost use Rattle.test_report_run.specs.Events.{is_after_report, is_event};
+ghost use Rattle.test_report_run.specs.Fits.{NotesFit, OnlyMemory};
 ghost use Rattle.test_report_run.specs.Note.{disagreement_view, is_new_disagreement, note_view};
 ghost use Rattle.test_report_run.specs.Run as spec;
 ghost use Rattle.test_report_run.specs.Run.{run_state};
+ghost use Rattle.test_report_run.specs.RunFits.{EachFits, EventFits, RunFits, SumsFit, ToldFits};
 
 mod command;
 mod lines;
@@ -124,12 +126,15 @@ impl TestRun {
     /// Takes the next line: its events, in their order. Returns the notes that each makes known, one after the
     /// other.
     ///
-    /// After an error the run must not be used: a part of the line may be counted.
+    /// Fails with `CounterFull` only if a number of the run does not fit its counter after one of these events, or a sum
+    /// of the numbers in the last lines of a suite does not. The only other error is `OutOfMemory`. After an error the run
+    /// must not be used: a part of the line may be counted.
     pub fn on_line(&mut self, alloc: Global, line: &Line) -> Result<Vec<Note>, RunError>
         ensures tells { IfOk result (λ notes. map note_view notes.items
             ≡ spec.notes_of (run_state self.old) (events_of line.now)) }
         ensures takes { OnOk result (run_state self.new
             ≡ spec.run_after (run_state self.old) (events_of line.now)) }
+        ensures room { EachFits (run_state self.old) (events_of line.now) → OnlyMemory result }
     {
         let mut notes = Vec::new(alloc);
         self.take(alloc, line.before(), &mut notes)?;
@@ -142,12 +147,15 @@ impl TestRun {
     /// line. The notes of a suite are in this order: its tests without an end, its flaky tests, disagreements,
     /// tests that did not run, and the numbers of the suite.
     ///
-    /// After an error the run must not be used: a part of the event may be counted.
+    /// Fails with `CounterFull` only if a number of the run does not fit its counter after the event, or a sum of the
+    /// numbers in the last lines of a suite does not. The only other error is `OutOfMemory`. After an error the run must
+    /// not be used: a part of the event may be counted.
     pub fn on_event(&mut self, alloc: Global, event: Event<'_>) -> Result<Vec<Note>, RunError>
         ensures tells { IfOk result (λ notes. map note_view notes.items
             ≡ spec.notes_at (run_state self.old) (event_view event.entry)) }
         ensures takes { OnOk result (run_state self.new
             ≡ spec.after (run_state self.old) (event_view event.entry)) }
+        ensures room { EventFits (run_state self.old) (event_view event.entry) → OnlyMemory result }
     {
         let mut notes = Vec::new(alloc);
         self.settle_at(event, &mut notes)?;
@@ -158,11 +166,15 @@ impl TestRun {
     }
 
     /// Ends the file, or the output of a command, and returns the notes that this makes known. Suites that are
-    /// still open end early: their running tests crashed. After an error the run must not be used.
+    /// still open end early: their running tests crashed.
+    ///
+    /// Fails with `CounterFull` only if a number of the run does not fit its counter after the end of the file. The only
+    /// other error is `OutOfMemory`. After an error the run must not be used.
     pub fn end_file(&mut self, alloc: Global) -> Result<Vec<Note>, RunError>
         ensures tells { IfOk result (λ notes. map note_view notes.items
             ≡ spec.file_notes (run_state self.old)) }
         ensures takes { OnOk result (run_state self.new ≡ spec.after_file (run_state self.old)) }
+        ensures room { RunFits (spec.after_file (run_state self.old)) → OnlyMemory result }
     {
         let mut notes = Vec::new(alloc);
         self.settle(false, &mut notes)?;
@@ -175,11 +187,13 @@ impl TestRun {
         Ok(notes)
     }
 
-    /// Ends the open suites early, and then the tests outside of a suite.
+    /// Ends the open suites early, and then the tests outside of a suite. Fails only if memory runs out, or a number of a
+    /// suite does not fit.
     fn end_suites(&mut self, alloc: Global, notes: &mut Vec<Note>) -> Result<(), RunError>
         ensures takes { OnOk result (run_state self.new ≡ (spec.all_ended_early (run_state self.old)).run) }
         ensures tells { OnOk result (map note_view notes.new.items ≡ map note_view notes.old.items
             ++ (spec.all_ended_early (run_state self.old)).notes) }
+        ensures room { NotesFit (spec.all_ended_early (run_state self.old)).notes → OnlyMemory result }
     {
         for suite in self.suites.take_all(alloc) {
             self.end_early(alloc, Box::into_inner(suite), notes)?;
@@ -223,6 +237,8 @@ impl TestRun {
             ++ spec.notes_of (run_state self.old) (option_to_list (option_map event_view event.entry))) }
         ensures takes { OnOk result (run_state self.new
             ≡ spec.run_after (run_state self.old) (option_to_list (option_map event_view event.entry))) }
+        ensures room { EachFits (run_state self.old) (option_to_list (option_map event_view event.entry))
+            → OnlyMemory result }
     {
         if let Some(event) = event {
             notes.append(&mut self.on_event(alloc, event)?)?;
@@ -243,7 +259,8 @@ impl TestRun {
         Ok(())
     }
 
-    /// Takes an event, except that its notes are not added to the sums.
+    /// Takes an event, except that its notes are not added to the sums. Fails only if memory runs out, or a number of the
+    /// run does not fit.
     fn tell(
         &mut self,
         alloc: Global,
@@ -254,6 +271,7 @@ impl TestRun {
             ≡ (spec.told (run_state self.old) (event_view event.entry)).run) }
         ensures tells { OnOk result (map note_view notes.new.items ≡ map note_view notes.old.items
             ++ (spec.told (run_state self.old) (event_view event.entry)).notes) }
+        ensures room { ToldFits (run_state self.old) (event_view event.entry) → OnlyMemory result }
     {
         match event {
             Event::SuiteStarted { key, test_count } => {
@@ -276,7 +294,10 @@ impl TestRun {
                 self.on_cargo_failed(alloc, failure, plain)
             }
             Event::Print { line, plain } => self.on_print(alloc, line, plain),
-            Event::Damaged { text } => push_damaged(alloc, text, notes),
+            Event::Damaged { text } => {
+                push_damaged(alloc, text, notes)?;
+                Ok(())
+            }
         }
     }
 
@@ -317,10 +338,11 @@ impl TestRun {
         }
     }
 
-    /// Adds notes to the sums.
+    /// Adds notes to the sums. Fails only if a sum does not fit.
     fn learn(&mut self, notes: &[Note]) -> Result<(), RunError>
-        ensures { OnOk result (run_state self.new
+        ensures learns { OnOk result (run_state self.new
             ≡ spec.learned (run_state self.old) (map note_view notes.now)) }
+        ensures room { SumsFit (spec.learned (run_state self.old) (map note_view notes.now)) → IsOk result }
     {
         for note in notes {
             self.learn_note(note)?;
@@ -328,10 +350,11 @@ impl TestRun {
         Ok(())
     }
 
-    /// Adds a note to the sums.
+    /// Adds a note to the sums. Fails only if a sum does not fit.
     pub(crate) fn learn_note(&mut self, note: &Note) -> Result<(), RunError>
-        ensures { OnOk result (run_state self.new
+        ensures learns { OnOk result (run_state self.new
             ≡ spec.learned (run_state self.old) (note_view note.now ∷ [])) }
+        ensures room { SumsFit (spec.learned (run_state self.old) (note_view note.now ∷ [])) → IsOk result }
     {
         match note {
             Note::Test(test) => {

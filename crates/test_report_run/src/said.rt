@@ -1,7 +1,8 @@
 //! The numbers in the last lines of a suite.
 
-ghost use Rattle.std.specs.Prelude.{◌≡◌, ◌+◌, ◌<◌, ◌^◌, ◌↔◌, IfOk, IsOk, unwrap_or};
+ghost use Rattle.std.specs.Prelude.{◌≡◌, ◌↔◌, IfOk, IsOk};
 ghost use Rattle.test_report_events.specs.Event.{suite_end_view};
+ghost use Rattle.test_report_run.specs.Fits.{FitsWide, SaidFits};
 ghost use Rattle.test_report_run.specs.Said.{numbers_of, sum_of, time_sum_of, with_said};
 
 use crate::error::RunError;
@@ -12,7 +13,7 @@ use test_report_events::event::SuiteEnd;
 /// fit.
 pub(crate) fn sum(a: Option<u128>, b: Option<u128>) -> Result<Option<u128>, RunError>
     ensures sum { IfOk result (λ sum. sum ≡ sum_of a b) }
-    ensures fits { IsOk result ↔ (unwrap_or a 0 + unwrap_or b 0 < 2 ^ 128) }
+    ensures fits { IsOk result ↔ FitsWide (sum_of a b) }
 {
     match (a, b) {
         (Some(a), Some(b)) => Ok(Some(a.checked_add(b).ok_or(RunError::CounterFull)?)),
@@ -24,7 +25,7 @@ pub(crate) fn sum(a: Option<u128>, b: Option<u128>) -> Result<Option<u128>, RunE
 /// Adds a number of a line. The sum is absent only if both numbers are. Fails only if the sum does not fit.
 fn with_number(a: Option<u128>, b: Option<u64>) -> Result<Option<u128>, RunError>
     ensures sum { IfOk result (λ sum. sum ≡ sum_of a b) }
-    ensures fits { IsOk result ↔ (unwrap_or a 0 + unwrap_or b 0 < 2 ^ 128) }
+    ensures fits { IsOk result ↔ FitsWide (sum_of a b) }
 {
     match b {
         Some(b) => sum(a, Some(u128::from(b))),
@@ -56,9 +57,10 @@ pub(crate) struct Said {
 }
 
 impl Said {
-    /// Adds the numbers and the verdict of one more line.
+    /// Adds the numbers and the verdict of one more line. Fails only if a sum does not fit.
     pub(crate) fn with_line(self, end: SuiteEnd<'_>) -> Result<Said, RunError>
-        ensures { IfOk result (λ said. said ≡ with_said self (suite_end_view end.entry)) }
+        ensures said { IfOk result (λ said. said ≡ with_said self (suite_end_view end.entry)) }
+        ensures fits { IsOk result ↔ SaidFits (with_said self (suite_end_view end.entry)) }
     {
         Ok(Said {
             failed_verdict: self.failed_verdict || end.failed_verdict,
@@ -74,7 +76,7 @@ impl Said {
     /// only if the number of passed tests does not fit.
     pub(crate) fn numbers(self) -> Result<SaidNumbers, RunError>
         ensures numbers { IfOk result (λ said. said ≡ numbers_of self) }
-        ensures fits { IsOk result ↔ (unwrap_or (numbers_of self).passed 0 < 2 ^ 128) }
+        ensures fits { IsOk result ↔ FitsWide (numbers_of self).passed }
     {
         let passed = match self.passed {
             Some(passed) => sum(Some(passed), self.measured)?,

@@ -1,7 +1,8 @@
 //! An open suite of a run.
 
-ghost use Rattle.std.specs.Prelude.{◌≡◌, ◌==◌, ◌<◌, ◌^◌, ◌↔◌, IfOk, IsOk, OnOk, option_map, string_bytes};
+ghost use Rattle.std.specs.Prelude.{◌≡◌, ◌==◌, ◌+◌, ◌<◌, ◌^◌, ◌↔◌, IfOk, IsOk, OnOk, option_map, string_bytes};
 ghost use Rattle.test_report_events.specs.Event.{suite_end_view};
+ghost use Rattle.test_report_run.specs.Fits.{FitsWide, OnlyMemory, SaidFits};
 ghost use Rattle.test_report_run.specs.Note.{note_view, outcome_view, test_view, text_view};
 ghost use Rattle.test_report_run.specs.Others.{no_others, others_view};
 ghost use Rattle.test_report_run.specs.Suite.{has_key, joined_by, named, outside_start, over_view, state_of, suite_name, suite_start, tally_of, test_note, test_of, with_line, with_start};
@@ -182,9 +183,12 @@ impl Suite {
         }
     }
 
-    /// Takes another first line of the suite.
+    /// Takes another first line of the suite. Fails only if the number of these lines, or of the tests that they
+    /// announce, does not fit.
     pub(crate) fn join(&mut self, test_count: Option<u128>) -> Result<(), RunError>
         ensures takes { OnOk result (state_of self.new ≡ joined_by (state_of self.old) test_count) }
+        ensures fits { IsOk result ↔ ((self.old.open_lines + 1 < 2 ^ 64)
+            × FitsWide (joined_by (state_of self.old) test_count).test_count) }
         ensures number { self.new.name.number ≡ self.old.name.number }
         ensures key { text_view self.new.name.key ≡ text_view self.old.name.key }
     {
@@ -193,11 +197,13 @@ impl Suite {
         Ok(())
     }
 
-    /// Takes a last line of the suite. Returns true if the suite now has as many last lines as first lines.
+    /// Takes a last line of the suite. Returns true if the suite now has as many last lines as first lines. Fails only
+    /// if a sum of the numbers in its last lines does not fit.
     pub(crate) fn on_last_line(&mut self, end: SuiteEnd<'_>) -> Result<bool, RunError>
         ensures takes { OnOk result (state_of self.new
             ≡ with_line (state_of self.old) (suite_end_view end.entry)) }
         ensures last { IfOk result (λ last. last ≡ (self.new.open_lines == 0)) }
+        ensures fits { IsOk result ↔ SaidFits (with_line (state_of self.old) (suite_end_view end.entry)).said }
         ensures number { self.new.name.number ≡ self.old.name.number }
         ensures key { text_view self.new.name.key ≡ text_view self.old.name.key }
     {
@@ -215,9 +221,10 @@ impl Suite {
         self.name.take_test(alloc, name)
     }
 
-    /// Takes the start of a test.
+    /// Takes the start of a test. Fails only if memory runs out, or the number of tests that started does not fit.
     pub(crate) fn on_start(&mut self, alloc: Global, name: &str) -> Result<(), RunError>
         ensures takes { OnOk result (state_of self.new ≡ with_start (state_of self.old) name.now) }
+        ensures room { self.old.started + 1 < 2 ^ 64 → OnlyMemory result }
         ensures number { self.new.name.number ≡ self.old.name.number }
         ensures key { text_view self.new.name.key ≡ text_view self.old.name.key }
     {

@@ -1,6 +1,7 @@
 //! The sums over all suites of a run.
 
 ghost use Rattle.std.specs.Prelude.{◌≡◌, ◌+◌, ◌<◌, ◌^◌, ◌↔◌, IfOk, IsOk, OnOk};
+ghost use Rattle.test_report_run.specs.Fits.{EndFits};
 ghost use Rattle.test_report_run.specs.Note.{suite_view};
 ghost use Rattle.test_report_run.specs.Totals.{ending, no_suites, suite_outcome, with_suite};
 
@@ -33,9 +34,10 @@ impl Totals {
         }
     }
 
-    /// Adds a suite.
+    /// Adds a suite. Fails only if a sum does not fit.
     pub(crate) fn add(&mut self, suite: &SuiteNote) -> Result<(), RunError>
-        ensures { OnOk result (self.new.end ≡ with_suite self.old.end (suite_view suite.now)) }
+        ensures adds { OnOk result (self.new.end ≡ with_suite self.old.end (suite_view suite.now)) }
+        ensures room { EndFits (with_suite self.old.end (suite_view suite.now)) → IsOk result }
     {
         self.end.stats.try_add(&suite.stats)?;
         let crashed = self.end.crashed.checked_add(suite.crashed);
@@ -67,9 +69,11 @@ impl Totals {
     }
 }
 
-/// Returns the outcome of a suite. It depends on whether all tests ran, and not on how many did not.
+/// Returns the outcome of a suite. It depends on whether all tests ran, and not on how many did not. Fails only if
+/// the number of finished tests is `usize::MAX`.
 fn outcome_of(suite: &SuiteNote) -> Result<RunOutcome, RunError>
-    ensures { IfOk result (λ outcome. outcome ≡ suite_outcome (suite_view suite.now)) }
+    ensures outcome { IfOk result (λ outcome. outcome ≡ suite_outcome (suite_view suite.now)) }
+    ensures room { suite.now.stats.finished_count + 1 < 2 ^ 64 → IsOk result }
 {
     let finished = suite.stats.finished_count;
     let stats = RunStats {

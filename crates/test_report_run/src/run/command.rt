@@ -3,8 +3,10 @@
 ghost use Rattle.std.specs.Prelude.{◌≡◌, ◌++◌, ◌||◌, IfOk, OnOk, map, option_map};
 ghost use Rattle.test_report_events.specs.Event.{Cancels, CommandOver, CommandStarts};
 ghost use Rattle.test_report_run.specs.Note.{CargoSays, Disagrees, cargo_view, command_view, ended_well, note_view, was_not_started};
+ghost use Rattle.test_report_run.specs.Fits.{OnlyMemory};
 ghost use Rattle.test_report_run.specs.Run as spec;
 ghost use Rattle.test_report_run.specs.Run.{run_state};
+ghost use Rattle.test_report_run.specs.RunFits.{SumsFit};
 ghost use Rattle.test_report_run.specs.SuiteNames.{names_of};
 
 use crate::error::RunError;
@@ -82,12 +84,15 @@ impl TestRun {
         )
     }
 
-    /// Adds a disagreement if the command failed and nothing says why, and counts it.
+    /// Adds a disagreement if the command failed and nothing says why, and counts it. Fails only if memory runs out, or
+    /// a sum does not fit.
     pub(crate) fn end_command(&mut self, notes: &mut Vec<Note>) -> Result<(), RunError>
         ensures takes { OnOk result (record (run_state self.new) { command = (run_state self.old).command }
             ≡ spec.learned (run_state self.old) (spec.command_notes (run_state self.old))) }
         ensures tells { OnOk result (map note_view notes.new.items ≡ map note_view notes.old.items
             ++ spec.command_notes (run_state self.old)) }
+        ensures room { SumsFit (spec.learned (run_state self.old) (spec.command_notes (run_state self.old)))
+            → OnlyMemory result }
     {
         let Some(end) = self.command.take() else {
             return Ok(());

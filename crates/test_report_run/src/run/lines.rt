@@ -2,7 +2,8 @@
 
 ghost use Rattle.std.specs.List.{starts_with};
 ghost use Rattle.std.specs.Map.{lookup};
-ghost use Rattle.std.specs.Prelude.{◌≡◌, ◌++◌, ◌∷◌, [], IfOk, OnOk, map, nat_eq, option_and_then, option_map};
+ghost use Rattle.std.specs.Prelude.{◌≡◌, ◌<◌, ◌^◌, ◌++◌, ◌∷◌, [], IfOk, OnOk, map, nat_eq, option_and_then, option_map};
+ghost use Rattle.test_report_run.specs.Fits.{OnlyMemory, OthersFit};
 ghost use Rattle.test_report_run.specs.Note.{Disagrees, IsDamaged, note_view, text_view};
 ghost use Rattle.test_report_run.specs.Prints.{cut};
 ghost use Rattle.test_report_run.specs.Run as spec;
@@ -21,18 +22,20 @@ use test_report_events::event::CargoFailure;
 const TESTS_FAILED: &[u8] = b"error: test failed";
 
 impl TestRun {
-    /// Takes a heading of cargo.
+    /// Takes a heading of cargo. Fails only if memory runs out, or the number of headings does not fit.
     pub(crate) fn on_heading(
         &mut self,
         alloc: Global,
         name: &str,
         path: Option<&str>,
     ) -> Result<(), RunError>
-        ensures { OnOk result (run_state self.new ≡ spec.headed (run_state self.old) name.now
+        ensures takes { OnOk result (run_state self.new ≡ spec.headed (run_state self.old) name.now
             (option_map (λ path. path.now) path.entry)) }
+        ensures room { OthersFit (spec.headed (run_state self.old) name.now
+            (option_map (λ path. path.now) path.entry)).others → OnlyMemory result }
     {
         self.others.on_heading(alloc)?;
-        let own = self.headings.on_heading(alloc, name, path)?;
+        let own = self.headings.take_heading(alloc, name, path)?;
         let name = self.known_name(alloc, path)?.unwrap_or(own);
         self.heading = Some(Rc::new(alloc, name)?);
         Ok(())
@@ -49,28 +52,31 @@ impl TestRun {
         }
     }
 
-    /// Takes a print.
+    /// Takes a print. Fails only if memory runs out, or the number of prints does not fit.
     pub(crate) fn on_print(
         &mut self,
         alloc: Global,
         line: &str,
         plain: &str,
     ) -> Result<(), RunError>
-        ensures { OnOk result (run_state self.new ≡ spec.printed (run_state self.old) line.now plain.now) }
+        ensures takes { OnOk result (run_state self.new ≡ spec.printed (run_state self.old) line.now plain.now) }
+        ensures room { OthersFit (spec.printed (run_state self.old) line.now plain.now).others → OnlyMemory result }
     {
         self.others.on_print(alloc, line, plain)?;
         self.recent.take_line(alloc, plain)?;
         Ok(())
     }
 
-    /// Takes a line in which cargo or nextest reports a failure. If it disagrees, it counts from now on.
+    /// Takes a line in which cargo or nextest reports a failure. If it disagrees, it counts from now on. Fails only if
+    /// memory runs out, or the number of failed tests and disagreements does not fit.
     pub(crate) fn on_cargo_failed(
         &mut self,
         alloc: Global,
         failure: CargoFailure,
         plain: &str,
     ) -> Result<(), RunError>
-        ensures { OnOk result (run_state self.new ≡ spec.cargo_fails (run_state self.old) failure plain.now) }
+        ensures takes { OnOk result (run_state self.new ≡ spec.cargo_fails (run_state self.old) failure plain.now) }
+        ensures room { (spec.cargo_fails (run_state self.old) failure plain.now).causes < 2 ^ 64 → OnlyMemory result }
     {
         let disagrees = self.disagrees(failure);
         self.others.on_failure(alloc)?;
@@ -138,7 +144,11 @@ fn begins(line: &[u8], front: &[u8]) -> bool
 }
 
 /// Adds the disagreement of a damaged line that says a failure.
-pub(crate) fn push_damaged(alloc: Global, text: &str, notes: &mut Vec<Note>) -> Result<(), RunError>
+pub(crate) fn push_damaged(
+    alloc: Global,
+    text: &str,
+    notes: &mut Vec<Note>,
+) -> Result<(), AllocError>
     ensures { OnOk result (map note_view notes.new.items ≡ map note_view notes.old.items
         ++ Disagrees (IsDamaged (cut text.now)) ∷ []) }
 {
