@@ -12,8 +12,9 @@ use Rattle.test_report_run.specs.Run.{RunState, after_file, file_notes, run_stat
 use Rattle.test_report_run.specs.declared.note.Note.{Note}
 use Rattle.test_report_run.specs.declared.note.RunEnd.{RunEnd}
 use Rattle.test_report_run.specs.declared.run.TestRun.{TestRun}
+use Rattle.test_report_engine.specs.Fits.{InputFits, LineFits}
 use Rattle.test_report_engine.specs.Lines.{IsOneLine, events_after, with_feed}
-use Rattle.test_report_engine.specs.Reading.{AppendsLinesStart, LeadsTo, ReadsInput, ReadsLine, ReadsStart, TakesLine, WritesNotes}
+use Rattle.test_report_engine.specs.Reading.{AppendsLinesStart, LeadsTo, ReadsInput, RestFits, ReadsLine, ReadsStart, TakesLine, WritesNotes}
 use Rattle.test_report_engine.specs.Report.{after_end, after_line, end_notes, line_notes, notes_of_input, parts, run_after, run_after_input, run_of}
 use Rattle.test_report_engine.specs.declared.report.Report.{Report}
 use Rattle.test_report_engine.proofs.Lines.{divided-at, events-cut, events-line, events-none, feedless-front, joined, one-events, with-feed, without-feed}
@@ -128,7 +129,26 @@ input-line-start command line old bytes rest b w one starts events are =
     (sym (ap (λ es. notes_of_input r (es ++ events_after command)) first.is))
     (starts-front (line old.form) (line_notes r first.own ∷ []) (notes_of_input (after_line r first.own) others) b w (starts first.own first.says))
 
+-- the numbers fit after the events of the first line
+pub first-fits : (command : Option CommandView) {F : Type 0} (old : Report F) (bytes rest : List ℕ) → IsOneLine bytes
+    → RestFits command old (with_feed bytes ++ rest) → (es : List EventView) × LineSays bytes es × LineFits (run_of old.run) es
+first-fits command old bytes rest one fits =
+    let first = events-cut bytes rest fits.0 one fits.1 in
+    let all : InputFits (run_of old.run) (first.own ∷ (first.others ++ events_after command)) =
+    subst (λ l. InputFits (run_of old.run) (l ++ events_after command)) first.is fits.2 in
+    (first.own, first.says, all.0)
+
+-- a last line is read as one with a line feed
+pub last-fits : (command : Option CommandView) {F : Type 0} (old : Report F) (bytes : List ℕ) → IsOneLine bytes → 0 < length bytes
+    → RestFits command old bytes → RestFits command old (with_feed bytes ++ [])
+last-fits command old bytes one some fits = (fits.0, with-feed bytes fits.0 one some fits.1, fits.2)
+
 module _ (one-reading-of-line : OneReadingOfLine) where
+  -- the numbers fit at the end of an input
+  pub end-fits : (command : Option CommandView) {F : Type 0} (old : Report F) → RestFits command old [] → InputFits (run_of old.run) (events_after command)
+  end-fits command old fits =
+      subst (λ es. InputFits (run_of old.run) (es ++ events_after command)) (one-events one-reading-of-line [] fits.0 [] fits.1 events-none) fits.2
+
   -- the end of an input, of which a beginning is written
   pub input-end-start : (command : Option CommandView) {F : Type 0} (line : F → List EntryView → List ℕ) (old : Report F) (b w : Option (List ℕ))
       → AppendsLinesStart (line old.form) (notes_of_input (run_of old.run) (events_after command)) b w → ReadsStart command line old [] b w
@@ -208,6 +228,8 @@ module _ {F : Type 0} (line : F → List EntryView → List ℕ) (last : F → L
         (first.reads command (q ++ rest) end v (second.reads command rest end v read));
     starts = λ command rest v starts. subst (λ l. ReadsStart command line old (x ++ l) b v) (sym (append_assoc p q rest))
         (first.starts command (q ++ rest) v (second.starts command rest v starts));
+    fits = λ command rest fits. second.fits command rest (first.fits command (q ++ rest)
+        (subst (λ l. RestFits command old (x ++ l)) (append_assoc p q rest) fits));
   }
 
   -- more of a line
@@ -217,6 +239,7 @@ module _ {F : Type 0} (line : F → List EntryView → List ℕ) (last : F → L
     reads = λ command rest end w read. subst (λ l. ReadsInput line last Knows command old end l b w)
         (ap (λ x. x ++ rest) is ∙ append_assoc begun bytes rest) read;
     starts = λ command rest w starts. subst (λ l. ReadsStart command line old l b w) (ap (λ x. x ++ rest) is ∙ append_assoc begun bytes rest) starts;
+    fits = λ command rest fits. subst (RestFits command old) (sym (ap (λ x. x ++ rest) is ∙ append_assoc begun bytes rest)) fits;
   }
 
   -- what comes of the end of an input here comes of these bytes and the end there
@@ -224,6 +247,7 @@ module _ {F : Type 0} (line : F → List EntryView → List ℕ) (last : F → L
     pub reads : (command : Option CommandView) (end : Report F) (v : Option (List ℕ)) → ReadsInput line last Knows command new end [] w v
         → ReadsInput line last Knows command old end bytes b v
     pub starts : (command : Option CommandView) (v : Option (List ℕ)) → ReadsStart command line new [] w v → ReadsStart command line old bytes b v
+    pub fits : (command : Option CommandView) → RestFits command old bytes → RestFits command new []
 
   ends-at : (old mid new : Report F) (bytes : List ℕ) (b m w : Option (List ℕ)) → new ≡ mid → w ≡ m → EndsAs old mid bytes b m → EndsAs old new bytes b w
   ends-at old mid new bytes b m w same there ends =
@@ -232,7 +256,7 @@ module _ {F : Type 0} (line : F → List EntryView → List ℕ) (last : F → L
   -- no bytes
   pub ends-none : (old new : Report F) (bytes : List ℕ) (b w : Option (List ℕ)) → length bytes ≡ 0 → new ≡ old → w ≡ b → EndsAs old new bytes b w
   ends-none old new [] b w none same there =
-      ends-at old old new [] b b w same there (record { reads = λ command end v read. read; starts = λ command v starts. starts })
+      ends-at old old new [] b b w same there (record { reads = λ command end v read. read; starts = λ command v starts. starts; fits = λ command fits. fits })
   ends-none old new (x ∷ xs) b w none same there = absurd (omega arith)
 
   -- the bytes before a rest were taken
@@ -274,6 +298,25 @@ module _ {F : Type 0} (line : F → List EntryView → List ℕ) (last : F → L
       bytes-starts command old mid x y bytes rest after b m w takes
       (subst (λ l. ReadsStart command line mid l m w) whole (input-line-start command line mid line_then (then ++ after) m w line_one starts))
 
+  -- the numbers fit after the next line
+  pub bytes-line-fits : (command : Option CommandView) (old mid : Report F) (x y line_then bytes rest front back after : List ℕ)
+      (b m : Option (List ℕ)) (at : ℕ)
+      → TakesBytes old mid x y bytes rest b m → IsOneLine y
+      → front ≡ take at rest → back ≡ drop at rest → at < length rest
+      → ((k : ℕ) → k < at → ¬ ((slice_index rest k == 10) ≡ true)) → (slice_index rest at == 10) ≡ true
+      → line_then ≡ y ++ front → RestFits command old (x ++ (bytes ++ after))
+      → (es : List EventView) × LineSays line_then es × LineFits (run_of mid.run) es
+  bytes-line-fits command old mid x y line_then bytes rest front back after b m at takes one is_front is_back within before feed is fits =
+      let line_one : IsOneLine line_then = subst IsOneLine (sym is) (joined y front one (feedless-front rest front at is_front within before)) in
+      let then : List ℕ = take (length back - 1) (drop 1 back) in
+      let cut : rest ≡ with_feed front ++ then = divided-at rest front back at is_front is_back within feed in
+      let whole : with_feed line_then ++ (then ++ after) ≡ y ++ (rest ++ after) = line-rest y front line_then (then ++ after) is
+      ∙ ap (λ l. y ++ l) (sym (append_assoc (with_feed front) then after) ∙ ap (λ l. l ++ after) (sym cut)) in
+      let there : RestFits command mid (y ++ (rest ++ after)) =
+      takes.leads.fits command (rest ++ after)
+      (subst (λ l. RestFits command old (x ++ l)) (ap (λ l. l ++ after) takes.are ∙ append_assoc takes.done rest after) fits) in
+      first-fits command mid line_then (then ++ after) line_one (subst (RestFits command mid) (sym whole) there)
+
 module _ (one-reading-of-line : OneReadingOfLine) (one_entry : OneEntry) {F : Type 0} (line : F → List EntryView → List ℕ)
     (last : F → List EntryView → RunEnd → List ℕ) (Knows : F → List EntryView → Type 0) where
   -- a line, and then a beginning of the rest
@@ -291,6 +334,16 @@ module _ (one-reading-of-line : OneReadingOfLine) (one_entry : OneEntry) {F : Ty
       subst (λ ns. AppendsLinesStart (line old.form) ns b w) notes
       (starts-then one_entry line last Knows old mid (line_notes r read.events ∷ []) (notes_of_input (run_of mid.run) es) b m w read.writes
       (starts first.others first.say))
+
+  -- the numbers fit after a line if they fit before it
+  pub line-fits-then : (command : Option CommandView) (old mid : Report F) (bytes rest : List ℕ) (b m : Option (List ℕ)) → IsOneLine bytes
+      → ReadsLine line last Knows old mid bytes b m → RestFits command old (with_feed bytes ++ rest) → RestFits command mid rest
+  line-fits-then command old mid bytes rest b m one read fits =
+      let first = events-cut bytes rest fits.0 one fits.1 in
+      let es : List (List EventView) = first.others ++ events_after command in
+      let same : read.events ≡ first.own = one-reading-of-line bytes read.events first.own read.says first.says in
+      let all : InputFits (run_of old.run) (first.own ∷ es) = subst (λ l. InputFits (run_of old.run) (l ++ events_after command)) first.is fits.2 in
+      (first.others, first.say, subst (λ s. InputFits s es) (sym (read.run_is ∙ ap (after_line (run_of old.run)) same)) all.1)
 
   -- a last line
   pub last-line : (command : Option CommandView) (old new : Report F) (bytes : List ℕ) (b w : Option (List ℕ)) → IsOneLine bytes → 0 < length bytes
@@ -311,6 +364,8 @@ module _ (one-reading-of-line : OneReadingOfLine) (one_entry : OneEntry) {F : Ty
         (subst (λ l. ReadsInput line last Knows command new last_one (l ++ rest) w v) none others));
     starts = λ command rest v starts. subst (λ l. ReadsStart command line old l b v) (line-rest begun end bytes rest is)
         (input-line-then command old new bytes rest b w v one read (subst (λ l. ReadsStart command line new (l ++ rest) w v) none starts));
+    fits = λ command rest fits. subst (λ l. RestFits command new (l ++ rest)) (sym none)
+        (line-fits-then command old new bytes rest b w one read (subst (RestFits command old) (sym (line-rest begun end bytes rest is)) fits));
   }
 
   -- bytes that are a last line
@@ -320,6 +375,7 @@ module _ (one-reading-of-line : OneReadingOfLine) (one_entry : OneEntry) {F : Ty
     reads = λ command end v others. last-line command old end bytes b v one some
         (input-line line last Knows command old mid end bytes [] b m v one read others);
     starts = λ command v starts. last-start command line old bytes b v one some (input-line-then command old mid bytes [] b m v one read starts);
+    fits = λ command fits. line-fits-then command old mid bytes [] b m one read (last-fits command old bytes one some fits);
   })
 
   -- one more line

@@ -1,3 +1,4 @@
+pub mod Fits
 pub mod Inputs
 pub mod Lines
 pub mod Lists

@@ -1,7 +1,7 @@
 -- What a report has read and written of its inputs.
-use Rattle.std.proofs.Common.{◌≡◌, ◌≢◌, ◌≤◌, ◌∙◌, ℕ, List, [], ◌∷◌, ◌++◌, None, Some, IfSome, Option, ap, append-nil, append_assoc, arith, length, refl, subst, sym, take}
+use Rattle.std.proofs.Common.{◌≡◌, ◌≢◌, ◌<◌, ◌≤◌, ◌+◌, ◌∙◌, ℕ, List, [], ◌∷◌, ◌++◌, None, Some, IfSome, Option, ap, append-nil, append_assoc, arith, length, refl, subst, sym, take}
 use Rattle.std.proofs.KnownBytes.{Appends-nil, Consumes-trans}
-use Rattle.std.proofs.lemmas.List.{append_cancel_left, length-take-le}
+use Rattle.std.proofs.lemmas.List.{append_cancel_left, length-append, length-take-le}
 use Rattle.std.proofs.lemmas.List.Concat.{flat_map-append}
 use Rattle.std.specs.Io.KnownBytes.{Appends, Consumes, IsAtEnd}
 use Rattle.std.specs.List.{AllZip, flat_map}
@@ -18,7 +18,7 @@ use Rattle.test_report_run.specs.Run.{RunState, after, end_of, run_start, run_st
 use Rattle.test_report_run.specs.declared.note.RunEnd.{RunEnd}
 use Rattle.test_report_run.specs.declared.run.TestRun.{TestRun}
 use Rattle.test_report_engine.specs.Lines.{AreEventsOf, InputView, events_after, file, output}
-use Rattle.test_report_engine.specs.Reading.{AppendsLinesStart, BreaksOff, BreaksOffEnd, FilesHaveRead, Finishes, HasRead, ReadsAnyStart, ReadsInput, ReadsOneMore, ReadsPiece, ReadsSome, ReadsStart, StartsCommand, WritesNotes, piece_size}
+use Rattle.test_report_engine.specs.Reading.{AnyRestFits, AppendsLinesStart, BreaksOff, BreaksOffEnd, FilesHaveRead, Finishes, HasRead, ReadsAnyStart, ReadsInput, ReadsOneMore, ReadsPiece, ReadsSome, ReadsStart, RestFits, StartsCommand, WritesNotes, piece_size}
 use Rattle.test_report_engine.specs.Report.{AreEntriesOf, AreTexts, IsReport, all_entries, notes_of_input, notes_of_inputs, run_after_input, run_after_inputs, run_of}
 use Rattle.test_report_engine.specs.declared.report.Report.{Report}
 use Rattle.test_report_engine.proofs.Inputs.{input-none, leads-then, start-notes, start-runs}
@@ -171,6 +171,50 @@ rest-end-starts line old x y k bytes (Some xs) (Some ys) v w consumed none end s
     λ command over. subst (λ o. ReadsStart o line old (x ++ xs) v w) (sym (over (left-none xs ys k bytes consumed none end)))
     (subst (λ l. ReadsStart None line old l v w) (nothing-left x y xs ys k bytes consumed none end same) starts)
 
+-- the next bytes fit if the rest does
+pub rest-fits : {F : Type 0} (old : Report F) (x y bytes : List ℕ) (m n : Option (List ℕ)) (P : Type 0) → y ≡ x → Consumes m n bytes
+    → ((command : Option CommandView) (rest : List ℕ) → RestFits command old (y ++ (bytes ++ rest)) → P) → IfSome m (λ rest. AnyRestFits old x rest → P)
+rest-fits old x y bytes None n P same consumed then = tt
+rest-fits old x y bytes (Some xs) None P same consumed then = absurd consumed
+rest-fits old x y bytes (Some xs) (Some ys) P same consumed then = λ fits. then fits.0 ys
+    (subst (RestFits fits.0 old) (sym (ap (λ l. l ++ (bytes ++ ys)) same ∙ ap (λ l. x ++ l) (sym consumed))) fits.2)
+
+-- and so does the end of an input
+pub rest-end-fits : {F : Type 0} (old : Report F) (x y : List ℕ) (k : ℕ) (bytes : List ℕ) (m n : Option (List ℕ)) (P : Type 0)
+    → Consumes m n (take k bytes) → k ≡ 0 → IsAtEnd n → y ≡ x → (RestFits None old y → P) → IfSome m (λ rest. AnyRestFits old x rest → P)
+rest-end-fits old x y k bytes None n P consumed none end same then = tt
+rest-end-fits old x y k bytes (Some xs) None P consumed none end same then = absurd consumed
+rest-end-fits old x y k bytes (Some xs) (Some ys) P consumed none end same then = λ fits. then
+    (subst (RestFits None old) (sym (nothing-left x y xs ys k bytes consumed none end same))
+    (subst (λ o. RestFits o old (x ++ xs)) (fits.1 (left-none xs ys k bytes consumed none end)) fits.2))
+
+-- what follows from a rest
+pub some-then : (m : Option (List ℕ)) (A : List ℕ → Type 0) (P Q : Type 0) → (P → Q) → IfSome m (λ rest. A rest → P) → IfSome m (λ rest. A rest → Q)
+some-then None A P Q follows held = tt
+some-then (Some xs) A P Q follows held = λ a. follows (held a)
+
+-- each piece that was read has at least one byte
+abbrev pub IsLong : ℕ → Option (List ℕ) → Option (List ℕ) → Type 0
+IsLong pieces at_first left = IfSome at_first (λ input. IfSome left (λ rest. pieces + length rest ≤ length input))
+
+pub long-none : (a : Option (List ℕ)) → IsLong 0 a a
+long-none None = tt
+long-none (Some xs) = omega arith
+
+pub long-more : (k : ℕ) (a m n : Option (List ℕ)) (bytes : List ℕ) → Consumes a m bytes → ReadsSome m n → IsLong k a m → IsLong (k + 1) a n
+long-more k None m n bytes consumed some long = tt
+long-more k (Some xs) None n bytes consumed some long = absurd consumed
+long-more k (Some xs) (Some ys) None bytes consumed some long = tt
+long-more k (Some xs) (Some ys) (Some zs) bytes consumed some long =
+    omega (arith, long, some.2, ap length some.1, length-append some.0 zs)
+
+-- so not as many pieces can be read as a short input has bytes
+pub long-all : (k size : ℕ) (a m : Option (List ℕ)) (bytes : List ℕ) (P : List ℕ → Type 0) (Q : Type 0) → Consumes a m bytes → size ≤ k → IsLong k a m
+    → IfSome a (λ input. length input < size → P input → Q)
+long-all k size None m bytes P Q consumed all long = tt
+long-all k size (Some xs) None bytes P Q consumed all long = absurd consumed
+long-all k size (Some xs) (Some ys) bytes P Q consumed all long = λ short fits. absurd (omega (arith, long, short, all))
+
 module _ {F : Type 0} (line : F → List EntryView → List ℕ) (last : F → List EntryView → RunEnd → List ℕ) (Knows : F → List EntryView → Type 0) where
   -- a report took the events of an input, and what they make known was appended
   pub record TakesInput (old new : Report F) (input : InputView) (b w : Option (List ℕ)) : Type 0 where
@@ -246,6 +290,14 @@ module _ {F : Type 0} (line : F → List EntryView → List ℕ) (last : F → L
     consumed = Consumes-trans a m n pieces.bytes next.bytes pieces.consumed next.consumed;
     leads = leads-then line last Knows old mid new [] x y pieces.bytes next.bytes b v w pieces.leads next.leads;
   }
+
+  -- pieces, and the rest of the input, which fits if the input does
+  pub pieces-fit : (old mid : Report F) (x : List ℕ) (a m b v : Option (List ℕ)) (size : ℕ) (P : Type 0) → ReadsPiece line last Knows old mid [] x a m b v
+      → IfSome m (λ rest. AnyRestFits mid x rest → P) → IfSome a (λ input. length input < size → RestFits None old input → P)
+  pieces-fit old mid x None m b v size P pieces then = tt
+  pieces-fit old mid x (Some xs) None b v size P pieces then = absurd pieces.consumed
+  pieces-fit old mid x (Some xs) (Some ys) b v size P pieces then = λ short fits.
+      then (None, (λ over. refl), pieces.leads.fits None ys (subst (RestFits None old) pieces.consumed fits))
 
   -- pieces, and the rest of the input
   pub pieces-end : (old mid new : Report F) (x : List ℕ) (a m b v w : Option (List ℕ)) → ReadsPiece line last Knows old mid [] x a m b v

@@ -1,4 +1,5 @@
 pub mod Fault
+pub mod Fits
 pub mod Lines
 pub mod Others
 pub mod Progress

@@ -12,6 +12,7 @@ use Rattle.test_report_forms.specs.declared.files.FileTexts.{FileTexts}
 use Rattle.test_report_run.specs.Note.{NoteView}
 use Rattle.test_report_run.specs.declared.note.RunEnd.{RunEnd}
 use Rattle.test_report_run.specs.declared.run.TestRun.{TestRun}
+use Rattle.test_report_engine.specs.Fits.{InputFits}
 use Rattle.test_report_engine.specs.Lines.{AreLineEvents, InputView, events_after, output}
 use Rattle.test_report_engine.specs.Report.{AreEntriesOf, AreLinesOf, IsReport, after_line, all_entries, line_notes, notes_of_input, run_after_input, run_of}
 use Rattle.test_report_engine.specs.declared.report.Report.{Report}
@@ -56,6 +57,16 @@ ReadsStart command line report rest before after =
 abbrev pub ReadsAnyStart : {F : Type 0} → (F → List EntryView → List ℕ) → Report F → List ℕ → List ℕ → Option (List ℕ) → Option (List ℕ) → Type 0
 ReadsAnyStart line report begun rest before after =
     (command : Option CommandView) → (rest ≡ [] → command ≡ None) → ReadsStart command line report (begun ++ rest) before after
+
+-- the numbers of a run fit while a report reads this rest of an input. If it is the output of a command, the command ends so
+abbrev pub RestFits : Option CommandView → {F : Type 0} → Report F → List ℕ → Type 0
+RestFits command report rest =
+    (events : List (List EventView)) × AreLineEvents rest events × InputFits (run_of report.run) (events ++ events_after command)
+
+-- the same, however the command will end while bytes are left; after the last one there is none
+abbrev pub AnyRestFits : {F : Type 0} → Report F → List ℕ → List ℕ → Type 0
+AnyRestFits report begun rest =
+    (command : Option CommandView) × (rest ≡ [] → command ≡ None) × RestFits command report (begun ++ rest)
 
 -- a run took the events of a line, and they make these notes known
 pub record TakesLine (old new : TestRun) (bytes : List ℕ) (notes : List NoteView) : Type 0 where
@@ -107,13 +118,14 @@ module _ {F : Type 0} (line : F → List EntryView → List ℕ) (last : F → L
     pub run_is : run_of new.run ≡ run_after_input (run_of old.run) (events ++ events_after command)
     pub writes : WritesNotes old new (notes_of_input (run_of old.run) (events ++ events_after command)) before after
 
-  -- Some bytes of an input lead from one state to another: what comes of the rest there comes of these bytes and the rest here. The bytes of a line
-  -- that has begun come before them.
+  -- Some bytes of an input lead from one state to another: what comes of the rest there comes of these bytes and the rest here, and if the numbers fit
+  -- here they fit there. The bytes of a line that has begun come before them.
   pub record LeadsTo (old new : Report F) (begun begun_then bytes : List ℕ) (before after : Option (List ℕ)) : Type 0 where
     pub reads : (command : Option CommandView) (rest : List ℕ) (end : Report F) (written : Option (List ℕ))
         → ReadsInput command new end (begun_then ++ rest) after written → ReadsInput command old end (begun ++ (bytes ++ rest)) before written
     pub starts : (command : Option CommandView) (rest : List ℕ) (written : Option (List ℕ))
         → ReadsStart command line new (begun_then ++ rest) after written → ReadsStart command line old (begun ++ (bytes ++ rest)) before written
+    pub fits : (command : Option CommandView) (rest : List ℕ) → RestFits command old (begun ++ (bytes ++ rest)) → RestFits command new (begun_then ++ rest)
 
   -- A report took the next bytes of an input. The bytes of a line that has begun come before them.
   pub record ReadsPiece (old new : Report F) (begun begun_then : List ℕ) (at_first left before after : Option (List ℕ)) : Type 0 where

@@ -1,37 +1,35 @@
 //! A report that is written while its run is read.
 
-ghost use Rattle.std.specs.Prelude.{◌+◌, ◌<◌, ◌≤◌, ◌≡◌, ◌≢◌, ◌↔◌, ◌⊎◌, ◌++◌, ◌∷◌, [], ℕ, true, false, List, None, Option, Some, IfErr, IfOk, IfSome, OnOk, OnErr, IsErrOf, length, map, option_map, string_bytes};
+ghost use Rattle.std.specs.Prelude.{◌-◌, ◌^◌, ◌<◌, ◌≡◌, ◌≢◌, ◌↔◌, ◌⊎◌, ◌++◌, ◌∷◌, [], ℕ, true, false, List, None, Option, Some, IfErr, IfOk, IfSome, OnOk, OnErr, IsErrOf, length, map, option_map, string_bytes};
 ghost use Rattle.std.specs.Io.KnownBytes.{IsAtEnd};
-ghost use Rattle.std.specs.List.{position};
 ghost use Rattle.test_report_events.specs.Event.{Cancels, CommandView, EventView};
 ghost use Rattle.test_report_events.specs.Line.{LineSays};
 ghost use Rattle.test_report_forms.specs.Files.{FilesKnow};
 ghost use Rattle.test_report_forms.specs.Form.{lines};
 ghost use Rattle.test_report_forms.specs.declared.files.FileForms.{FileForms};
-ghost use Rattle.test_report_run.specs.Note.{command_view, disagreement_view, note_view};
+ghost use Rattle.test_report_run.specs.Note.{command_view, note_view};
 ghost use Rattle.test_report_run.specs.Run.{after, run_state};
 ghost use Rattle.test_report_run.specs.SuiteNames.{names_of};
-ghost use Rattle.test_report_engine.specs.Lines.{InputView, IsOneLine, events_after, file};
+ghost use Rattle.test_report_engine.specs.Fits.{LineFits, NotFull};
+ghost use Rattle.test_report_engine.specs.Lines.{InputView, IsOneLine, file};
 ghost use Rattle.test_report_engine.specs.Others.{GetsOthers, sink_state};
-ghost use Rattle.test_report_engine.specs.Reading.{TakesLine};
-ghost use Rattle.test_report_engine.specs.Report as spec;
-ghost use Rattle.test_report_engine.specs.Report.{AreTexts, end_notes, line_notes, parts, run_after, run_after_input, run_of};
+ghost use Rattle.test_report_engine.specs.Report.{AreTexts, line_notes, parts, run_of};
 ghost use Rattle.test_report_engine.specs.declared.fault.Fault.TheVariants as faults;
 
+mod notes;
+
 use crate::fault::Fault;
-use crate::others::pass_rest;
 use crate::pieces::Pieces;
+use crate::report::notes::{notes_of_end, notes_of_line, part_size};
 use bstr::ByteSlice;
 use program_io::device::{Sink, Source};
 use program_io::transfer::write_all;
 use run_events_results::results::CancelReason;
 use std::alloc::{AllocError, Global};
-use test_report_events::line::Line;
 use test_report_forms::entry::Entry;
 use test_report_forms::files::{FileForms, FileTexts};
 use test_report_forms::form::Form;
-use test_report_run::error::RunError;
-use test_report_run::note::{CommandEnd, Disagreement, Note, RunEnd};
+use test_report_run::note::{CommandEnd, Note, RunEnd};
 use test_report_run::run::TestRun;
 use test_report_run::suite_names::SuiteNames;
 
@@ -85,7 +83,8 @@ impl<F: Form + Drop> Report<F> {
     ///
     /// - [`Fault::Read`] if and only if the source fails, and [`Fault::Write`] if and only if the sink
     ///   fails.
-    /// - [`Fault::CounterFull`] if a number is too large for its counter.
+    /// - [`Fault::CounterFull`] only if a number of the run does not fit its counter, or the file has 2^64 - 1 bytes or
+    ///   more.
     /// - [`Fault::OutOfMemory`] if there is not enough memory.
     pub fn read_file<R: Source, W: Sink, O: Sink>(
         &mut self,
@@ -116,6 +115,8 @@ impl<F: Form + Drop> Report<F> {
         ensures others_start { OnErr result (IfSome (R.left source.old)
             (λ input. second.GetsStart None (lines F.line F.line_end) self.old input (sink_state O.failed O.flushed O.written others.old)
             (sink_state O.failed O.flushed O.written others.new) (W.written sink.old) (W.written sink.new))) }
+        ensures room { IfSome (R.left source.old)
+            (λ input. length input < 2 ^ 64 - 1 → reading.RestFits None self.old input → NotFull result) }
     {
         test_report_events::laws::one_reading_of_line();
         test_report_forms::laws::one_entry();
@@ -144,7 +145,7 @@ impl<F: Form + Drop> Report<F> {
     ///
     /// - [`Fault::Read`] if and only if the source fails, and [`Fault::Write`] if and only if the sink
     ///   fails.
-    /// - [`Fault::CounterFull`] if a number is too large for its counter.
+    /// - [`Fault::CounterFull`] only if a number of the run does not fit its counter.
     /// - [`Fault::OutOfMemory`] if there is not enough memory.
     pub fn read_piece<R: Source, W: Sink, O: Sink>(
         &mut self,
@@ -183,6 +184,8 @@ impl<F: Form + Drop> Report<F> {
             (λ rest. second.GetsAnyStart (lines F.line F.line_end) self.old pieces.old.line.items rest
             (sink_state O.failed O.flushed O.written others.old)
             (sink_state O.failed O.flushed O.written others.new) (W.written sink.old) (W.written sink.new))) }
+        ensures room { IfSome (R.left source.old)
+            (λ rest. reading.AnyRestFits self.old pieces.old.line.items rest → NotFull result) }
     {
         let mut chunk = [0u8; CHUNK];
         let n = match source.read(&mut chunk) {
@@ -234,7 +237,7 @@ impl<F: Form + Drop> Report<F> {
     /// command would have added to the report.
     ///
     /// - [`Fault::Write`] if and only if the sink fails.
-    /// - [`Fault::CounterFull`] if a number is too large for its counter.
+    /// - [`Fault::CounterFull`] only if a number of the run does not fit its counter.
     /// - [`Fault::OutOfMemory`] if there is not enough memory.
     pub fn end_command<W: Sink, O: Sink>(
         &mut self,
@@ -259,6 +262,7 @@ impl<F: Form + Drop> Report<F> {
         ensures others_start { OnErr result (second.GetsStart (Some (command_view end.now)) (lines F.line F.line_end) self.old
             pieces.old.line.items (sink_state O.failed O.flushed O.written others.old)
             (sink_state O.failed O.flushed O.written others.new) (W.written sink.old) (W.written sink.new)) }
+        ensures room { reading.RestFits (Some (command_view end.now)) self.old pieces.old.line.items → NotFull result }
     {
         let line = std::mem::replace(&mut pieces.line, Vec::new(alloc));
         self.end_input(alloc, line.as_slice(), Some(end), sink, others)
@@ -334,6 +338,8 @@ impl<F: Form + Drop> Report<F> {
         ensures others_start { OnErr result ((command : Option CommandView) (rest : List ℕ) → second.GetsStart command (lines F.line F.line_end) self.old
             (begun.old.items ++ (bytes.now ++ rest)) (sink_state O.failed O.flushed O.written others.old)
             (sink_state O.failed O.flushed O.written others.new) (W.written sink.old) (W.written sink.new)) }
+        ensures room { (command : Option CommandView) (rest : List ℕ)
+            → reading.RestFits command self.old (begun.old.items ++ (bytes.now ++ rest)) → NotFull result }
     {
         test_report_events::laws::one_reading_of_line();
         test_report_forms::laws::one_entry();
@@ -373,6 +379,8 @@ impl<F: Form + Drop> Report<F> {
             ≡ (sink_state O.failed O.flushed O.written others.old)) × (W.written sink.new ≡ W.written sink.old))
             ⊎ GetsOthers (bytes.now ∷ []) (sink_state O.failed O.flushed O.written others.old)
             (sink_state O.failed O.flushed O.written others.new)) }
+        ensures room { (events : List EventView) → LineSays bytes.now events → LineFits (run_of self.old.run) events
+            → NotFull result }
     {
         test_report_events::laws::one_reading_of_line();
         let notes = notes_of_line(alloc, &mut self.run, bytes, others)?;
@@ -407,6 +415,8 @@ impl<F: Form + Drop> Report<F> {
             (option_map (λ end. command_view end.now) command.entry) (lines F.line F.line_end) self.old begun.now
             (sink_state O.failed O.flushed O.written others.old)
             (sink_state O.failed O.flushed O.written others.new) (W.written sink.old) (W.written sink.new)) }
+        ensures room { reading.RestFits (option_map (λ end. command_view end.now) command.entry) self.old begun.now
+            → NotFull result }
     {
         test_report_events::laws::one_reading_of_line();
         test_report_forms::laws::one_entry();
@@ -426,7 +436,7 @@ impl<F: Form + Drop> Report<F> {
     ) -> Result<(), Fault>
         requires sink_works { W.failed sink.old ≡ false }
         ensures write { IsErrOf result faults.Write ↔ (W.failed sink.new ≡ true) }
-        ensures errors { IfErr result (λ e. e ≢ faults.Read) }
+        ensures errors { IfErr result (λ e. (e ≡ faults.Write) ⊎ (e ≡ faults.OutOfMemory)) }
         ensures flushed { OnOk result (W.flushed sink.old ≡ true → W.flushed sink.new ≡ true) }
         ensures same_run { self.new.run ≡ self.old.run }
         ensures writes { OnOk result (reading.WritesNotes (lines F.line F.line_end) F.last F.Knows self.old self.new
@@ -449,7 +459,7 @@ impl<F: Form + Drop> Report<F> {
     fn write<W: Sink>(&mut self, alloc: Global, notes: &[Note], sink: &mut W) -> Result<(), Fault>
         requires sink_works { W.failed sink.old ≡ false }
         ensures write { IsErrOf result faults.Write ↔ (W.failed sink.new ≡ true) }
-        ensures errors { IfErr result (λ e. e ≢ faults.Read) }
+        ensures errors { IfErr result (λ e. (e ≡ faults.Write) ⊎ (e ≡ faults.OutOfMemory)) }
         ensures flushed { OnOk result (W.flushed sink.old ≡ true → W.flushed sink.new ≡ true) }
         ensures same_run { self.new.run ≡ self.old.run }
         ensures writes { OnOk result (reading.WritesNotes (lines F.line F.line_end) F.last F.Knows self.old self.new
@@ -484,84 +494,4 @@ impl<F: Form + Drop> Report<F> {
         text.push_str(after_line.as_str())?;
         Ok(text)
     }
-}
-
-/// Passes on what of a line is no event, and takes the events of the line. Returns the notes that they make known.
-fn notes_of_line<O: Sink>(
-    alloc: Global,
-    run: &mut TestRun,
-    bytes: &[u8],
-    others: &mut O,
-) -> Result<Vec<Note>, RunError>
-    ensures takes { IfOk result (λ notes. TakesLine run.old run.new bytes.now (map note_view notes.items)) }
-    ensures others { OnOk result (GetsOthers (bytes.now ∷ [])
-        (sink_state O.failed O.flushed O.written others.old)
-        (sink_state O.failed O.flushed O.written others.new)) }
-    ensures others_start { OnErr result (((sink_state O.failed O.flushed O.written others.new)
-        ≡ (sink_state O.failed O.flushed O.written others.old))
-        ⊎ GetsOthers (bytes.now ∷ []) (sink_state O.failed O.flushed O.written others.old)
-        (sink_state O.failed O.flushed O.written others.new)) }
-{
-    let line = Line::read(alloc, bytes)?;
-    pass_rest(alloc, others, bytes, line.rest())?;
-    let notes = run.on_line(alloc, &line)?;
-    Ok(notes)
-}
-
-/// Takes the end of a file, or of the output of a command that ended so. Returns the notes that it makes known.
-fn notes_of_end(
-    alloc: Global,
-    run: &mut TestRun,
-    command: Option<&CommandEnd>,
-) -> Result<Vec<Note>, RunError>
-    ensures takes { OnOk result (run_of run.new ≡ run_after_input (run_of run.old)
-        (events_after (option_map (λ end. command_view end.now) command.entry))) }
-    ensures tells { IfOk result (λ notes. parts (map note_view notes.items) ≡ end_notes (run_after (run_of run.old)
-        (events_after (option_map (λ end. command_view end.now) command.entry)))) }
-{
-    if let Some(end) = command {
-        run.on_command_ended(end)?;
-    }
-    run.end_file(alloc)
-}
-
-/// Returns how many notes the first part has, or `None` if no note ends a part.
-fn part_size(notes: &[Note]) -> Option<usize>
-    ensures first { result ≡ option_map (λ last. last + 1) (position (λ n. spec.ends_part (note_view n)) notes.now) }
-    ensures within { IfSome result (λ size. (0 < size) × (size ≤ length notes.now)) }
-{
-    match part_end(notes) {
-        Some(last) => Some(last + 1),
-        None => None,
-    }
-}
-
-/// Returns the offset of the last note of the first part, or `None` if no note ends a part.
-fn part_end(notes: &[Note]) -> Option<usize>
-    ensures first { result ≡ position (λ n. spec.ends_part (note_view n)) notes.now }
-    ensures within { IfSome result (λ last. last < length notes.now) }
-{
-    notes.iter().position(ends_part)
-}
-
-/// Returns true for the last note of a part of what the end of an input makes known: the numbers of a suite, or a
-/// disagreement of no suite.
-fn ends_part(note: &Note) -> bool
-    ensures { result ≡ spec.ends_part (note_view note.now) }
-{
-    match note {
-        Note::Suite(_) => true,
-        Note::Disagreement(disagreement) => is_of_no_suite(disagreement),
-        Note::Test(_) | Note::Flaky(_) | Note::NotRun(_) => false,
-    }
-}
-
-/// Returns true for a failure of cargo, an input without events, and a command that failed.
-fn is_of_no_suite(disagreement: &Disagreement) -> bool
-    ensures { result ≡ spec.is_of_no_suite (disagreement_view disagreement.now) }
-{
-    matches!(
-        disagreement,
-        Disagreement::Cargo(_) | Disagreement::NoEvent | Disagreement::Command(_)
-    )
 }

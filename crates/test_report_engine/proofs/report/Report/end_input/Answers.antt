@@ -1,6 +1,7 @@
 use Rattle.std.proofs.Common.{arith, length, ◌<◌, [], ap, refl}
 use Rattle.std.proofs.lemmas.Result.{on_ok_weaker}
-use Rattle.test_report_engine.proofs.Inputs.{EndsAs, end-read, ends-line, ends-none, input-end-start, input-line-start, input-none, last-start, notes-start, some-bytes}
+use Rattle.test_report_engine.proofs.Fits.{fault-passed-on, faulted}
+use Rattle.test_report_engine.proofs.Inputs.{EndsAs, end-fits, end-read, ends-line, ends-none, first-fits, input-end-start, input-line-start, input-none, last-fits, last-start, notes-start, some-bytes}
 use Rattle.test_report_engine.proofs.Notes.{on_err, on_err_weaker}
 use Rattle.test_report_engine.proofs.PassedOn.{EndsGets, ends-gets-line, ends-gets-none, ends-input, ends-stop, last-stop}
 use Rattle.test_report_engine.specs.Others.{sink_state}
@@ -138,3 +139,26 @@ returns-clause-others_start g c =
     (notes-start _ (lines g.F.Form.line g.F.Form.line_end c.if-not-is_empty.self.form) _ _ _ _ _ refl c.in_ok-notes.ensures.tells c.as_slice.ensures.value
     starts)))
     c.write_parts.ensures.starts
+
+pub returns-in_err-on_line-clause-room : goal.returns-in_err-on_line-clause-room
+returns-in_err-on_line-clause-room g c = λ fits.
+    let some : 0 < length c.args.begun.now = grind arith in
+    let first = first-fits _ c.args.self.now c.args.begun.now [] c.requires.one_line
+    (last-fits _ c.args.self.now c.args.begun.now c.requires.one_line some fits) in
+    fault-passed-on c.from_residual.result _ c.from_residual.ensures.1 (c.in_err-on_line.ensures.room first.0 first.1 first.2)
+
+pub returns-in_err-notes-clause-room : goal.returns-in_err-notes-clause-room
+returns-in_err-notes-clause-room g c = λ fits.
+    let ends : EndsAs (lines g.F.Form.line g.F.Form.line_end) g.F.Form.last g.F.Form.Knows c.args.self.now c.if-not-is_empty.self c.args.begun.now
+    (g.W.Sink.written c.args.sink.now)
+    (g.W.Sink.written c.if-not-is_empty.sink) =
+    elim c.if-not-is_empty.branch [
+      | then-not-is_empty+in_ok-on_line w ↦
+          ends-line c.one_reading_of_line.ensures c.one_entry.ensures (lines g.F.Form.line g.F.Form.line_end) g.F.Form.last g.F.Form.Knows _ w.on_line.new.self
+          _ _ _ _ _ c.requires.one_line (some-bytes _ _ c.is_empty.ensures w.if-not-is_empty.true) w.in_ok-on_line.ensures.reads w.self-is
+          (ap g.W.Sink.written w.sink-is)
+      | else-not-is_empty w ↦ ends-none (lines g.F.Form.line g.F.Form.line_end) g.F.Form.last g.F.Form.Knows _ _ _ _ _ (grind arith) w.self-is
+          (ap g.W.Sink.written w.sink-is)
+    ] in
+    faulted c.from_residual-in_err-notes.result _ c.from_residual-in_err-notes.ensures.1
+    (c.in_err-notes.ensures.room (end-fits c.one_reading_of_line.ensures _ c.if-not-is_empty.self (ends.fits _ fits)))

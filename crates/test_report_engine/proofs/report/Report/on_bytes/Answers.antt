@@ -1,5 +1,6 @@
 use Rattle.std.proofs.Common.{◌∙◌, [], append-nil, arith, refl, rules, subst, sym}
-use Rattle.test_report_engine.proofs.Inputs.{bytes-line, bytes-line-start, bytes-rest, bytes-starts, input-none, leads-begun}
+use Rattle.test_report_engine.proofs.Fits.{fault-passed-on}
+use Rattle.test_report_engine.proofs.Inputs.{bytes-line, bytes-line-fits, bytes-line-start, bytes-rest, bytes-starts, input-none, leads-begun}
 use Rattle.test_report_engine.proofs.Lines.{empty-line, feedless, joined}
 use Rattle.test_report_engine.proofs.Notes.{on_err}
 use Rattle.test_report_engine.proofs.PassedOn.{front-end, front-line, front-line-stop, front-none, front-stop}
@@ -106,3 +107,13 @@ pub returns-clause-others : goal.returns-clause-others
 returns-clause-others g c =
     front-end (lines g.F.Form.line g.F.Form.line_end) c.args.self.now c.loop-at.self c.args.begun.now.items c.loop-at.begun.items _ c.args.bytes.now
     c.loop-at.rest.now _ _ _ _ c.loop-at.invariant.gets c.in_ok-extend_from_slice-2.ensures.items
+
+pub returns-in_err-on_line-clause-room : goal.returns-in_err-on_line-clause-room
+returns-in_err-on_line-clause-room g c = λ command after fits.
+    let first = bytes-line-fits (lines g.F.Form.line g.F.Form.line_end) g.F.Form.last g.F.Form.Knows command c.args.self.now c.loop-at.self
+    c.args.begun.now.items c.loop-at.begun.items c.as_slice.result.now c.args.bytes.now c.loop-at.rest.now _ _ after _ _ c.in-Some.at
+    c.loop-at.invariant.takes c.loop-at.invariant.one_line c.split_at.ensures.front c.split_at.ensures.back c.in-Some.ensures.0.high
+    (λ k below. c.in-Some.ensures.0.before k (omega arith) below) c.in-Some.ensures.1
+    (c.as_slice.ensures.value ∙ c.in_ok-extend_from_slice.ensures.items) fits in
+    fault-passed-on c.from_residual-in_err-on_line.result _ c.from_residual-in_err-on_line.ensures.1
+    (c.in_err-on_line.ensures.room first.0 first.1 first.2)

@@ -1,11 +1,13 @@
-use Rattle.std.proofs.Common.{[], refl, rules, subst, sym}
+use Rattle.std.proofs.Common.{[], None, refl, rules, subst, sym}
 use Rattle.std.proofs.KnownBytes.{Consumes-nil}
 use Rattle.test_report_engine.specs.Others.{GetsPiece, sink_state}
-use Rattle.test_report_engine.specs.Reading.{ReadsPiece}
+use Rattle.test_report_engine.specs.Reading.{AnyRestFits, ReadsPiece, RestFits}
 use Rattle.test_report_engine.proofs.Inputs.{leads-begun}
 use Rattle.test_report_engine.proofs.PassedOn.{bytes-none, gets-more, gets-rest, gets-stop, rest-start-none}
+use Rattle.test_report_engine.proofs.Fits.{fault-passed-on}
 use Rattle.test_report_engine.proofs.Notes.{on_err}
-use Rattle.test_report_engine.proofs.Reports.{pieces-break, pieces-files, pieces-more, pieces-reads, rest-none}
+use Rattle.test_report_engine.specs.Fits.{NotFull}
+use Rattle.test_report_engine.proofs.Reports.{long-all, long-more, long-none, pieces-break, pieces-files, pieces-fit, pieces-more, pieces-reads, rest-none, some-then}
 use Rattle.test_report_forms.specs.Form.{lines}
 use Rattle.test_report_engine.proofs.report.Report.read_file.Goals as goal
 
@@ -40,6 +42,7 @@ loop-piece-preserved g c = record {
       gets-more (lines g.F.Form.line g.F.Form.line_end) c.args.self.now c.loop-piece.self c.read_piece.new.self c.loop-piece.pieces.line.items _ _ _ _ _ _ _ _
       _ _
       c.loop-piece.invariant.gets (c.in_ok-more.ensures.others_piece (search rules));
+  long = long-more c.loop-piece._piece _ _ _ _ c.loop-piece.invariant.reads.consumed (c.in_ok-more.ensures.some (search rules)) c.loop-piece.invariant.long;
 }
 
 pub returns-clause-breaks_off : goal.returns-clause-breaks_off
@@ -86,4 +89,18 @@ loop-piece-init g c = record {
       (g.W.Sink.written c.args.sink.now) (g.W.Sink.written c.args.sink.now))
       (sym c.new-pieces.ensures)
       ([], Consumes-nil (g.R.Source.left c.args.source.now), bytes-none (lines g.F.Form.line g.F.Form.line_end) c.args.self.now [] _ _);
+  long = long-none (g.R.Source.left c.args.source.now);
 }
+
+pub returns-in_err-more-clause-room : goal.returns-in_err-more-clause-room
+returns-in_err-more-clause-room g c =
+    let x = c.loop-piece.pieces.line.items in
+    pieces-fit (lines g.F.Form.line g.F.Form.line_end) g.F.Form.last g.F.Form.Knows c.args.self.now c.loop-piece.self x
+    _ _ _ _ _ (NotFull c.from_residual.result) c.loop-piece.invariant.reads
+    (some-then (g.R.Source.left c.loop-piece.source) (AnyRestFits c.loop-piece.self x) _ _
+    (fault-passed-on c.from_residual.result _ c.from_residual.ensures.1) c.in_err-more.ensures.room)
+
+pub returns-clause-room : goal.returns-clause-room
+returns-clause-room g c =
+    long-all c.loop-piece._piece _ _ _ _ (RestFits None c.args.self.now) _ c.loop-piece.invariant.reads.consumed c.loop-piece-test.false
+    c.loop-piece.invariant.long

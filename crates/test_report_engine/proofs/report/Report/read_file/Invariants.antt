@@ -2,6 +2,7 @@ use Rattle.std.proofs.Common.{◌≡◌, [], false, true}
 use Rattle.test_report_engine.specs.Others.{GetsPiece, sink_state}
 use Rattle.test_report_engine.specs.Reading.{ReadsPiece}
 use Rattle.test_report_forms.specs.Form.{lines}
+use Rattle.test_report_engine.proofs.Reports.{IsLong}
 use Rattle.test_report_engine.proofs.report.Report.read_file.Given as goal
 
 -- what was read of the source was taken
@@ -16,4 +17,5 @@ invariant-loop-piece g l = record {
   gets : GetsPiece (lines g.F.Form.line g.F.Form.line_end) l.fn.self l.self [] l.pieces.line.items (g.R.Source.left l.fn.source) (g.R.Source.left l.source)
       (sink_state g.O.Sink.failed g.O.Sink.flushed g.O.Sink.written l.fn.others) (sink_state g.O.Sink.failed g.O.Sink.flushed g.O.Sink.written l.others)
       (g.W.Sink.written l.fn.sink) (g.W.Sink.written l.sink);
+  long : IsLong l._piece (g.R.Source.left l.fn.source) (g.R.Source.left l.source);
 }
