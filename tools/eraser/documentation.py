@@ -4,7 +4,7 @@ from pathlib import Path
 
 from .functions import functions_of
 from .scanner import Source
-from .table import ERRORS, LAYER, MODULE_OF, PACKAGE_OF, PUBLISHED, WORDS_OF_PROOFS
+from .table import ERRORS, LAYER, PACKAGE_OF, PATH_OF, PUBLISHED, WORDS_OF_PROOFS
 
 EXAMPLES = Path(__file__).resolve().parent / "examples"
 DOCS = ("///", "//!")
@@ -14,9 +14,9 @@ def with_documentation(text, name):
     """Returns the text of the file `name` with its doc comments as Rust has them."""
     source = Source(text, name)
     lines = [i for i, kind in enumerate(source.kind) if kind == "comment" and source.text[i].startswith(DOCS)]
-    module = MODULE_OF[name.split("/")[0]]
+    path = "::".join(["crate", *PATH_OF[name.split("/")[0]], ""])
     for i in lines:
-        source.new[i] = re.sub(r"\bcrate::", f"crate::{module}::", source.text[i])
+        source.new[i] = re.sub(r"\bcrate::", path, source.text[i])
     _examples(source, lines)
     _errors(source, lines)
     package = PACKAGE_OF[name.split("/")[0]]

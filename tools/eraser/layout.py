@@ -19,7 +19,7 @@ from .memory import without_memory
 from .paths import public_names, with_package_paths
 from .places import with_places
 from .scanner import Refused
-from .table import BY_HAND, FOLDERS, MODULE_OF, NOT_IN_PLAIN_RUST, PACKAGE_OF, PACKAGES
+from .table import BY_HAND, FOLDERS, NOT_IN_PLAIN_RUST, PACKAGE_OF, PACKAGES, PARTS, PATH_OF
 from .twins import without_twins
 
 
@@ -60,9 +60,16 @@ def _sources(top):
     for crate in PACKAGE_OF:
         for path in sorted((top / "crates" / crate / "src").rglob("*.rt")):
             name = path.relative_to(top / "crates").as_posix()
-            if not set(Path(name).with_suffix("").parts) & set(NOT_IN_PLAIN_RUST) and name not in BY_HAND:
+            if _is_erased(name):
                 texts[name] = path.read_text(encoding="utf-8")
     return texts
+
+
+def _is_erased(name):
+    """Returns true if the source file of this name is erased."""
+    crate, _, *modules = Path(name).with_suffix("").parts
+    is_in_part = crate not in PARTS or modules[0] in PARTS[crate]
+    return is_in_part and not set(modules) & set(NOT_IN_PLAIN_RUST) and name not in BY_HAND
 
 
 def _reach():
@@ -79,10 +86,11 @@ def target_of(name):
     """Returns the path under rust/ of the erased file of a source."""
     crate, _, *folders, file = name.split("/")
     stem = file[: -len(".rt")]
-    is_root = not folders and stem in ("lib", "main")
-    module = MODULE_OF[crate].replace("::", "/")
-    parts = [FOLDERS[PACKAGE_OF[crate]], "src", module, *folders, ("mod" if is_root else stem) + ".rs"]
-    return "/".join(parts)
+    if not folders and stem in PARTS.get(crate, ()):
+        folders, stem = [stem], "mod"
+    elif not folders and stem in ("lib", "main"):
+        stem = "mod"
+    return "/".join([FOLDERS[PACKAGE_OF[crate]], "src", *PATH_OF[crate], *folders, stem + ".rs"])
 
 
 def _headed(name, text):
@@ -113,7 +121,7 @@ def erased_folders(top):
     folders = []
     for package, crates in PACKAGES.items():
         for crate in crates:
-            folders.append(top / "rust" / FOLDERS[package] / "src" / MODULE_OF[crate])
+            folders += [top / "rust" / FOLDERS[package] / "src" / module for module in PARTS.get(crate, PATH_OF[crate])]
     return folders
 
 

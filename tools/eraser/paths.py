@@ -72,13 +72,13 @@ class Paths:
         """Returns the words of a path, from the package's root or from that of another package."""
         head, rest = words[0], words[1:]
         if head == "crate":
-            return ["crate", table.MODULE_OF[self.crate], *rest]
+            return ["crate", *table.PATH_OF[self.crate], *rest]
         if head == "std":
             return [self._std(rest[0]), *rest]
         if head not in table.PACKAGE_OF:
             return words
         if table.PACKAGE_OF[head] == self.package:
-            return ["crate", table.MODULE_OF[head], *rest]
+            return ["crate", *table.PATH_OF[head], *rest]
         if table.PACKAGE_OF[head] != table.LAYER:
             return [table.PACKAGE_OF[head].replace("-", "_"), *words]
         return self._in_layer(words, i)

@@ -87,7 +87,7 @@ pub struct ExecutionStatusesIter<'a, S: OutputSpec> {
     ("test_report_run/src/open_suites/changes.rt", "Box::into_inner(self.list.remove(at))", "*self.list.remove(at)"),
     # The crate's own moments are made otherwise.
     (
-        "fixtures/src/lib.rt",
+        "test_tools/src/fixtures.rt",
         """    Moment {
         timestamp: Timestamp::UNIX_EPOCH,
         offset: Offset::UTC,
@@ -181,7 +181,7 @@ pub struct ExecutionStatusesIter<'a, S: OutputSpec> {
     # An error of serde_json is never a refusal of memory.
     ("test_report_events/src/line.rt", "        Err(error) if error.is_memory() => Err(AllocError),\n", ""),
     # More attempts than a `u32` counts are never made.
-    ("fixtures/src/lib.rt", "return Err(AllocError);", 'panic!("a test has too many attempts");'),
+    ("test_tools/src/fixtures.rt", "return Err(AllocError);", 'panic!("a test has too many attempts");'),
     # Nothing is refused, so nothing is handed back.
     ("run_events_child/src/child.rt", "{ChildExecutionOutput, Refused}", "ChildExecutionOutput"),
     (

@@ -2,7 +2,7 @@
 
 LAYER = "deodarsieve"
 
-# The packages in rust/: the crates that become modules of each, and the path of the modules.
+# The packages in rust/, each with the crates that become modules of it.
 PACKAGES = {
     LAYER: (
         "output_slice", "run_events_settings", "run_events_results", "run_events_levels", "run_events_child",
@@ -14,12 +14,18 @@ PACKAGES = {
     ),
     "deodarsieve-c": ("c_values", "deodarsieve"),
     "deodarsieve-tests": (
-        "fixtures",
+        "test_tools",
     ),
 }
 FOLDERS = {LAYER: "deodarsieve", "deodarsieve-cli": "cli", "deodarsieve-c": "c", "deodarsieve-tests": "tests"}
 PACKAGE_OF = {crate: package for package, crates in PACKAGES.items() for crate in crates}
-MODULE_OF = {crate: "exports" if crate == "deodarsieve" else crate for crate in PACKAGE_OF}
+
+# Crates of which only these modules are in plain Rust. They are modules of the package itself.
+PARTS = {"test_tools": ("fixtures",)}
+
+# The path of a crate's modules in its package.
+PATH_OF = {crate: ["exports" if crate == "deodarsieve" else crate] for crate in PACKAGE_OF if crate not in PARTS}
+PATH_OF |= {crate: [] for crate in PARTS}
 
 # The packages that are published.
 PUBLISHED = (LAYER, "deodarsieve-cli", "deodarsieve-c")

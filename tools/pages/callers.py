@@ -16,7 +16,7 @@ def is_caller(shown, source):
 def faults(page, top):
     """Returns 1, and a fault if the caller of a page CALLING.md is not the proved one."""
     library = Path(page.name).parent.name
-    paths = [Path(top, "crates", folder, f"of_{library}.rt") for folder, _ in PROVED]
+    paths = [Path(top, "crates", folder, f"of_{library}.rt") for folder in PROVED]
     source = next((path.read_text(encoding="utf-8") for path in paths if path.exists()), "")
     shown = "".join(block.text for block in page.blocks if block.words == ["rust"])
     return 1, [] if is_caller(shown, source) else [f"its caller is not that in of_{library}.rt"]

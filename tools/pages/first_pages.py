@@ -10,16 +10,15 @@ from .page import Page
 
 SHORTEST, LONGEST = 4, 15
 # The folders of the proved sources, each with the file that names their modules.
-PROVED = [("uses/src", "lib.rt"), ("test_report_uses/src", "lib.rt")]
+PROVED = {"uses/src": "uses/src/lib.rt", "uses/src/report": "uses/src/report.rt"}
 
 
 def proved_sources(top):
     """Returns the texts of the sources in which an example may be."""
     found = []
-    for name, root in PROVED:
-        folder = Path(top, "crates", name)
-        modules = re.findall(r"^mod (\w+);", (folder / root).read_text(encoding="utf-8"), re.M)
-        found += [(folder / f"{module}.rt").read_text(encoding="utf-8") for module in modules]
+    for folder, root in PROVED.items():
+        modules = re.findall(r"^mod (\w+);", Path(top, "crates", root).read_text(encoding="utf-8"), re.M)
+        found += [Path(top, "crates", folder, f"{module}.rt").read_text(encoding="utf-8") for module in modules]
     return found
 
 

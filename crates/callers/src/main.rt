@@ -1,10 +1,10 @@
-//! Runs calls of the libraries. The calls are in libraries of their own.
+//! Runs calls of the libraries. The calls are in the libraries `uses` and `test_tools`.
 //!
-//! - `callers examples` runs the examples of use, which are in `uses` and `test_report_uses`.
+//! - `callers examples` runs the examples of use, which are in `uses`.
 //! - `callers allocation NAME` makes one call that allocates. It is for `./allocation-failures`, and the
-//!   calls are in `allocation_failures`.
+//!   calls are in `test_tools::allocation_failures`.
 //! - `callers bench MEGABYTES` and `callers bench small` measure calls. They are for `./bench`, and the
-//!   calls are in `bench`.
+//!   calls are in `test_tools::bench`.
 //! - `callers all` runs the examples, makes each call that allocates, and measures calls on small
 //!   inputs.
 //!
@@ -12,10 +12,11 @@
 //! arguments cannot be read, it prints `not reached`, as for a call that was not made.
 #![tactic(auto)]
 
-use bench::size::Size;
 use std::process::ExitCode;
 use std::rt::Clock;
 use std::{env, io};
+use test_tools::bench::size::Size;
+use test_tools::{allocation_failures, bench};
 
 const USAGE: &str = "usage: callers examples|allocation NAME|bench MEGABYTES|bench small|all";
 
@@ -31,7 +32,7 @@ fn measure<R: AllocGlobal + Clock + Print>(rt: &R, word: &str) -> io::Result<Opt
 /// Runs the examples of use.
 fn run_examples<R: AllocGlobal + Print>(rt: &R) -> io::Result<()> {
     uses::run(rt)?;
-    test_report_uses::run(rt)
+    uses::report::run(rt)
 }
 
 /// Runs all parts. Returns true if all results are right.

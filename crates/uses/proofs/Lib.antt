@@ -1,3 +1,5 @@
 pub mod DisplayerLemmas
+pub mod EndOfLines
 pub mod Lists
 pub mod RunnerLemmas
+pub mod WholeReports

@@ -1,8 +1,8 @@
 //! Examples of use of the libraries: a runner, a reporter, a JUnit writer, a recorder and the exit
 //! status of a run. The example in the page CALLING.md of a library is in the file `of_LIBRARY.rt`.
 //! Most examples in the comments at the head of a library's `src/lib.rt` are from these files, and
-//! `first_pages.rt` has those that no other file has. The examples of the crates `test_report_..` are
-//! in `test_report_uses`. The program `callers` runs them, each on a small input, and calls the laws of
+//! `first_pages.rt` has those that no other file has. The examples of the report's libraries are in the
+//! module [`report`]. The program `callers` runs them, each on a small input, and calls the laws of
 //! `run_events`.
 #![tactic(auto)]
 
@@ -18,20 +18,21 @@ mod of_run_digest_engine;
 mod of_run_events;
 mod pages;
 mod recorder;
+pub mod report;
 mod runner;
 
 use run_events::events::ReporterEvent;
 use run_events::stats::FinishedUnit;
 use std::io;
 
-/// Runs all examples, and prints what they return.
+/// Runs all examples except those of [`report`], and prints what they return.
 pub fn run<R: AllocGlobal + Print>(rt: &R) -> io::Result<()> {
     let events = demo::run(rt.alloc())?;
     let units = runner::finished_units(rt.alloc(), events.as_slice())?;
     run_on(rt, events.as_slice(), units.as_slice())
 }
 
-/// Runs all examples on the events and the units of a run.
+/// Runs the same examples on the events and the units of a run.
 fn run_on<R: AllocGlobal + Print>(
     rt: &R,
     events: &[ReporterEvent<'_>],

@@ -1,2 +1,0 @@
-pub mod EndOfLines
-pub mod WholeReports
