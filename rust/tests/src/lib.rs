@@ -1,8 +1,8 @@
 //! The tests of deodarsieve.
 //!
-//! `tools/erase` writes the folder `fixtures` from the crate of that name in `crates/`. The other files are
-//! written by hand. `output_slice_tests` is a program: `tests/programs.rs` compares its output with the
-//! stored one.
+//! `tools/erase` writes the folder `fixtures` from the module of that name in `crates/test_tools`. The other
+//! files are written by hand. `output_slice_tests` is a program: `tests/programs.rs` compares its output with
+//! the stored one.
 
 #![forbid(unsafe_code)]
 

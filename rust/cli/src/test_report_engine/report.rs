@@ -1,17 +1,17 @@
 // Made by tools/erase from crates/test_report_engine/src/report.rt. Do not edit.
 //! A report that is written while its run is read.
 
+mod notes;
+
 use crate::program_io::device::{Sink, Source};
 use crate::program_io::transfer::write_all;
 use crate::test_report_engine::fault::Fault;
-use crate::test_report_engine::others::pass_rest;
 use crate::test_report_engine::pieces::Pieces;
-use crate::test_report_events::line::Line;
+use crate::test_report_engine::report::notes::{notes_of_end, notes_of_line, part_size};
 use crate::test_report_forms::entry::Entry;
 use crate::test_report_forms::files::{FileForms, FileTexts};
 use crate::test_report_forms::form::Form;
-use crate::test_report_run::error::RunError;
-use crate::test_report_run::note::{CommandEnd, Disagreement, Note, RunEnd};
+use crate::test_report_run::note::{CommandEnd, Note, RunEnd};
 use crate::test_report_run::run::TestRun;
 use crate::test_report_run::suite_names::SuiteNames;
 use bstr::ByteSlice;
@@ -58,7 +58,8 @@ impl<F: Form> Report<F> {
     ///
     /// - [`Fault::Read`] if and only if the source fails, and [`Fault::Write`] if and only if the sink
     ///   fails.
-    /// - [`Fault::CounterFull`] if a number is too large for its counter.
+    /// - [`Fault::CounterFull`] only if a number of the run does not fit its counter, or the file has 2^64 - 1 bytes or
+    ///   more.
     pub fn read_file<R: Source, W: Sink, O: Sink>(
         &mut self,
         source: &mut R,
@@ -89,7 +90,7 @@ impl<F: Form> Report<F> {
     ///
     /// - [`Fault::Read`] if and only if the source fails, and [`Fault::Write`] if and only if the sink
     ///   fails.
-    /// - [`Fault::CounterFull`] if a number is too large for its counter.
+    /// - [`Fault::CounterFull`] only if a number of the run does not fit its counter.
     pub fn read_piece<R: Source, W: Sink, O: Sink>(
         &mut self,
         source: &mut R,
@@ -134,7 +135,7 @@ impl<F: Form> Report<F> {
     /// command would have added to the report.
     ///
     /// - [`Fault::Write`] if and only if the sink fails.
-    /// - [`Fault::CounterFull`] if a number is too large for its counter.
+    /// - [`Fault::CounterFull`] only if a number of the run does not fit its counter.
     pub fn end_command<W: Sink, O: Sink>(
         &mut self,
         end: &CommandEnd,
@@ -252,52 +253,4 @@ impl<F: Form> Report<F> {
         text.push_str(after_line.as_str());
         text
     }
-}
-
-/// Passes on what of a line is no event, and takes the events of the line. Returns the notes that they make known.
-fn notes_of_line<O: Sink>(
-    run: &mut TestRun,
-    bytes: &[u8],
-    others: &mut O,
-) -> Result<Vec<Note>, RunError> {
-    let line = Line::read(bytes);
-    pass_rest(others, bytes, line.rest());
-    let notes = run.on_line(&line)?;
-    Ok(notes)
-}
-
-/// Takes the end of a file, or of the output of a command that ended so. Returns the notes that it makes known.
-fn notes_of_end(run: &mut TestRun, command: Option<&CommandEnd>) -> Result<Vec<Note>, RunError> {
-    if let Some(end) = command {
-        run.on_command_ended(end);
-    }
-    run.end_file()
-}
-
-/// Returns how many notes the first part has, or `None` if no note ends a part.
-fn part_size(notes: &[Note]) -> Option<usize> {
-    part_end(notes).map(|last| last + 1)
-}
-
-/// Returns the offset of the last note of the first part, or `None` if no note ends a part.
-fn part_end(notes: &[Note]) -> Option<usize> {
-    notes.iter().position(ends_part)
-}
-
-/// Returns true for the last note of a part of what the end of an input makes known: the numbers of a suite, or a
-/// disagreement of no suite.
-fn ends_part(note: &Note) -> bool {
-    match note {
-        Note::Suite(_) => true,
-        Note::Disagreement(disagreement) => is_of_no_suite(disagreement),
-        Note::Test(_) | Note::Flaky(_) | Note::NotRun(_) => false,
-    }
-}
-
-/// Returns true for a failure of cargo, an input without events, and a command that failed.
-fn is_of_no_suite(disagreement: &Disagreement) -> bool {
-    matches!(
-        disagreement,
-        Disagreement::Cargo(_) | Disagreement::NoEvent | Disagreement::Command(_)
-    )
 }

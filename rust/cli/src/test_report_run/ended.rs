@@ -31,7 +31,8 @@ fn failure_of(details: TestDetails<'_>) -> Failure {
 
 impl Suite {
     /// Takes the end of a test, and adds its note. `order` is the number of tests that started before it. A
-    /// test that passed after several attempts is kept, and has another note when its suite is over.
+    /// test that passed after several attempts is kept, and has another note when its suite is over. Fails only if
+    /// memory runs out, or a number of the suite does not fit.
     pub(crate) fn on_end(
         &mut self,
         test: OverTest,
@@ -54,14 +55,16 @@ impl Suite {
         let outcome = TestOutcome::Passed { output };
         if test.attempts > 1 {
             notes.push(Note::Flaky(self.test_note(test.duplicate(), outcome)));
-            return self.on_flaky(test, order, details);
+            self.on_flaky(test, order, details);
+            return Ok(());
         }
         count(&mut self.stats, Finish::Passed, 1, test.slow)?;
         notes.push(self.note(test, outcome));
         Ok(())
     }
 
-    /// Takes the end of a test that was not running.
+    /// Takes the end of a test that was not running. Fails only if memory runs out, or a number of the suite does not
+    /// fit.
     pub(crate) fn on_stray_end(
         &mut self,
         test: OverTest,
@@ -93,12 +96,7 @@ impl Suite {
 
     /// Keeps a test that passed after several attempts until the suite is over. Such tests are kept in the
     /// order in which they started.
-    fn on_flaky(
-        &mut self,
-        test: OverTest,
-        order: usize,
-        details: TestDetails<'_>,
-    ) -> Result<(), RunError> {
+    fn on_flaky(&mut self, test: OverTest, order: usize, details: TestDetails<'_>) {
         let flaky = FlakyTest {
             test,
             order,
@@ -106,6 +104,5 @@ impl Suite {
             message: owned(details.message),
         };
         self.flaky.insert(flaky);
-        Ok(())
     }
 }

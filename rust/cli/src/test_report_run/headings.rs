@@ -1,7 +1,6 @@
 // Made by tools/erase from crates/test_report_run/src/headings.rt. Do not edit.
 //! The names that headings give suites.
 
-use crate::test_report_run::error::RunError;
 use std::collections::BTreeMap;
 
 /// The headings of a file: the paths that each name had.
@@ -26,16 +25,12 @@ impl Headings {
 
     /// Takes a heading, and returns the name of the suites that follow it. If headings with this name had
     /// other paths before they had this one, the name is followed by the number of the path, as in ` (2)`.
-    pub(crate) fn on_heading(
-        &mut self,
-        name: &str,
-        path: Option<&str>,
-    ) -> Result<String, RunError> {
+    pub(crate) fn take_heading(&mut self, name: &str, path: Option<&str>) -> String {
         let number = self.number(name, path);
         if number == 1 {
-            return Ok(String::from(name));
+            return String::from(name);
         }
-        Ok(format!("{name} ({number})"))
+        format!("{name} ({number})")
     }
 
     /// Adds a path to those of a name, and returns its number.

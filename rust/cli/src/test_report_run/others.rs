@@ -85,7 +85,7 @@ impl Others {
         }
     }
 
-    /// Takes a print.
+    /// Takes a print. Fails only if memory runs out, or the number of prints does not fit.
     pub(crate) fn on_print(&mut self, line: &str, plain: &str) -> Result<(), RunError> {
         self.prints.take_print(line)?;
         if self.stage == Stage::CausedBy {
@@ -103,7 +103,7 @@ impl Others {
         }
     }
 
-    /// Takes a heading.
+    /// Takes a heading. Fails only if memory runs out, or the number of headings does not fit.
     pub(crate) fn on_heading(&mut self) -> Result<(), RunError> {
         self.end_part();
         self.headings = one_more(self.headings)?;

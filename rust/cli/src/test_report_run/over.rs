@@ -65,7 +65,8 @@ impl Suite {
     }
 
     /// Ends the suite without a last line, and adds its notes. `left` are its running tests, which crashed. `others`
-    /// are the lines of the file that are no events.
+    /// are the lines of the file that are no events. Fails only if memory runs out, or a number of the suite does not
+    /// fit.
     pub(crate) fn end_early(
         mut self,
         others: &Others,
@@ -75,13 +76,14 @@ impl Suite {
         let crashed = left.len();
         self.crash_left(others, left, notes)?;
         self.release_flaky(false, notes)?;
-        self.push_early_end(crashed, notes)?;
+        self.push_early_end(crashed, notes);
         let rest = Rest {
             skipped: self.skipped as u128,
             left: 0,
             time: self.time,
         };
-        self.push_numbers(rest, notes)
+        self.push_numbers(rest, notes);
+        Ok(())
     }
 
     /// Counts the running tests of the suite as crashed. `others` are the lines of the file that are no events.
@@ -147,7 +149,7 @@ impl Suite {
     }
 
     /// Adds the disagreement of a suite that ends early, if there is one.
-    fn push_early_end(&self, crashed: usize, notes: &mut Vec<Note>) -> Result<(), RunError> {
+    fn push_early_end(&self, crashed: usize, notes: &mut Vec<Note>) {
         match self.shown_name() {
             Some(suite) if crashed == 0 => {
                 notes.push(Note::Disagreement(Disagreement::EndedEarly { suite }));
@@ -158,7 +160,6 @@ impl Suite {
             }
             _ => {}
         }
-        Ok(())
     }
 
     /// Counts the flaky tests, as failed or as passed.
@@ -193,7 +194,8 @@ impl Suite {
         Ok(())
     }
 
-    /// Ends the suite after its last line, and adds its notes. `left` are its running tests.
+    /// Ends the suite after its last line, and adds its notes. `left` are its running tests. Fails only if memory runs
+    /// out, or a number of the suite does not fit.
     pub(crate) fn end(
         mut self,
         left: Vec<RunningTest>,
@@ -202,7 +204,7 @@ impl Suite {
         let explained = self.explained(left.len())?;
         let mut skipped = left;
         let others = skipped.split_off(explained.skipped);
-        self.skip_all(skipped, notes)?;
+        self.skip_all(skipped, notes);
         let left = self.fail_lost(explained.others_failed, others, notes)?;
         self.release_flaky(explained.flaky_failed, notes)?;
         self.push_disagreement(notes)?;
@@ -211,10 +213,12 @@ impl Suite {
             left,
             time: self.said.time.or(self.time),
         };
-        self.push_numbers(rest, notes)
+        self.push_numbers(rest, notes);
+        Ok(())
     }
 
-    /// Returns which tests the last line explains. `left` is the number of running tests.
+    /// Returns which tests the last line explains. `left` is the number of running tests. Fails only if a number that
+    /// decides this does not fit.
     fn explained(&self, left: usize) -> Result<Explanation, RunError> {
         let said = self.said.numbers()?;
         let ignored = self.said.ignored.unwrap_or(0);
@@ -245,15 +249,15 @@ impl Suite {
     }
 
     /// Adds that tests without end were skipped.
-    fn skip_all(&self, tests: Vec<RunningTest>, notes: &mut Vec<Note>) -> Result<(), RunError> {
+    fn skip_all(&self, tests: Vec<RunningTest>, notes: &mut Vec<Note>) {
         for test in tests {
             let outcome = TestOutcome::Skipped { reason: None };
             notes.push(self.note(self.over(test), outcome));
         }
-        Ok(())
     }
 
-    /// Adds a disagreement if the last line contradicts the tests.
+    /// Adds a disagreement if the last line contradicts the tests. Fails only if memory runs out, or the number of passed
+    /// tests that the last lines say does not fit.
     fn push_disagreement(&self, notes: &mut Vec<Note>) -> Result<(), RunError> {
         let said = self.said.numbers()?;
         let (passed, failed) = (self.stats.passed, failed_count(&self.stats));
@@ -270,7 +274,7 @@ impl Suite {
     }
 
     /// Adds the numbers of the suite, after how many of its tests did not run if that is not 0.
-    fn push_numbers(&self, rest: Rest, notes: &mut Vec<Note>) -> Result<(), RunError> {
+    fn push_numbers(&self, rest: Rest, notes: &mut Vec<Note>) {
         let finished = self.stats.finished_count as u128;
         let initial_run_count = self.initial_run_count(rest);
         let not_run = initial_run_count - finished;
@@ -289,7 +293,6 @@ impl Suite {
             crashed: self.crashed,
             time: rest.time,
         }));
-        Ok(())
     }
 
     /// Returns the number of tests that were to run.

@@ -41,7 +41,7 @@ impl Prints {
         self.count
     }
 
-    /// Takes the next print.
+    /// Takes the next print. Fails only if memory runs out, or the number of prints does not fit.
     pub(crate) fn take_print(&mut self, line: &str) -> Result<(), RunError> {
         self.kept.take_line(line);
         if !line.trim().is_empty() {

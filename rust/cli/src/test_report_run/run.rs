@@ -116,7 +116,9 @@ impl TestRun {
     /// Takes the next line: its events, in their order. Returns the notes that each makes known, one after the
     /// other.
     ///
-    /// After an error the run must not be used: a part of the line may be counted.
+    /// Fails with `CounterFull` only if a number of the run does not fit its counter after one of these events, or a sum
+    /// of the numbers in the last lines of a suite does not. The only other error is `OutOfMemory`. After an error the run
+    /// must not be used: a part of the line may be counted.
     pub fn on_line(&mut self, line: &Line) -> Result<Vec<Note>, RunError> {
         let mut notes = Vec::new();
         self.take(line.before(), &mut notes)?;
@@ -129,7 +131,9 @@ impl TestRun {
     /// line. The notes of a suite are in this order: its tests without an end, its flaky tests, disagreements,
     /// tests that did not run, and the numbers of the suite.
     ///
-    /// After an error the run must not be used: a part of the event may be counted.
+    /// Fails with `CounterFull` only if a number of the run does not fit its counter after the event, or a sum of the
+    /// numbers in the last lines of a suite does not. The only other error is `OutOfMemory`. After an error the run must
+    /// not be used: a part of the event may be counted.
     pub fn on_event(&mut self, event: Event<'_>) -> Result<Vec<Note>, RunError> {
         let mut notes = Vec::new();
         self.settle_at(event, &mut notes);
@@ -140,7 +144,10 @@ impl TestRun {
     }
 
     /// Ends the file, or the output of a command, and returns the notes that this makes known. Suites that are
-    /// still open end early: their running tests crashed. After an error the run must not be used.
+    /// still open end early: their running tests crashed.
+    ///
+    /// Fails with `CounterFull` only if a number of the run does not fit its counter after the end of the file. The only
+    /// other error is `OutOfMemory`. After an error the run must not be used.
     pub fn end_file(&mut self) -> Result<Vec<Note>, RunError> {
         let mut notes = Vec::new();
         self.settle(false, &mut notes);
@@ -153,7 +160,8 @@ impl TestRun {
         Ok(notes)
     }
 
-    /// Ends the open suites early, and then the tests outside of a suite.
+    /// Ends the open suites early, and then the tests outside of a suite. Fails only if memory runs out, or a number of a
+    /// suite does not fit.
     fn end_suites(&mut self, notes: &mut Vec<Note>) -> Result<(), RunError> {
         for suite in self.suites.take_all() {
             self.end_early(*suite, notes)?;
@@ -197,7 +205,8 @@ impl TestRun {
         }
     }
 
-    /// Takes an event, except that its notes are not added to the sums.
+    /// Takes an event, except that its notes are not added to the sums. Fails only if memory runs out, or a number of the
+    /// run does not fit.
     fn tell(&mut self, event: Event<'_>, notes: &mut Vec<Note>) -> Result<(), RunError> {
         match event {
             Event::SuiteStarted { key, test_count } => {
@@ -218,7 +227,10 @@ impl TestRun {
             Event::Heading { suite, path } => self.on_heading(suite, path),
             Event::CargoFailed { failure, plain, .. } => self.on_cargo_failed(failure, plain),
             Event::Print { line, plain } => self.on_print(line, plain),
-            Event::Damaged { text } => push_damaged(text, notes),
+            Event::Damaged { text } => {
+                push_damaged(text, notes);
+                Ok(())
+            }
         }
     }
 
@@ -250,7 +262,7 @@ impl TestRun {
         }
     }
 
-    /// Adds notes to the sums.
+    /// Adds notes to the sums. Fails only if a sum does not fit.
     fn learn(&mut self, notes: &[Note]) -> Result<(), RunError> {
         for note in notes {
             self.learn_note(note)?;
@@ -258,7 +270,7 @@ impl TestRun {
         Ok(())
     }
 
-    /// Adds a note to the sums.
+    /// Adds a note to the sums. Fails only if a sum does not fit.
     pub(crate) fn learn_note(&mut self, note: &Note) -> Result<(), RunError> {
         match note {
             Note::Test(test) => {

@@ -45,7 +45,7 @@ pub(crate) struct Said {
 }
 
 impl Said {
-    /// Adds the numbers and the verdict of one more line.
+    /// Adds the numbers and the verdict of one more line. Fails only if a sum does not fit.
     pub(crate) fn with_line(self, end: SuiteEnd<'_>) -> Result<Said, RunError> {
         Ok(Said {
             failed_verdict: self.failed_verdict || end.failed_verdict,

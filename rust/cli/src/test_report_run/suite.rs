@@ -150,14 +150,16 @@ impl Suite {
         }
     }
 
-    /// Takes another first line of the suite.
+    /// Takes another first line of the suite. Fails only if the number of these lines, or of the tests that they
+    /// announce, does not fit.
     pub(crate) fn join(&mut self, test_count: Option<u128>) -> Result<(), RunError> {
         self.open_lines = one_more(self.open_lines)?;
         self.test_count = sum(self.test_count, test_count)?;
         Ok(())
     }
 
-    /// Takes a last line of the suite. Returns true if the suite now has as many last lines as first lines.
+    /// Takes a last line of the suite. Returns true if the suite now has as many last lines as first lines. Fails only
+    /// if a sum of the numbers in its last lines does not fit.
     pub(crate) fn on_last_line(&mut self, end: SuiteEnd<'_>) -> Result<bool, RunError> {
         self.said = self.said.with_line(end)?;
         self.open_lines = self.open_lines.saturating_sub(1);
@@ -169,7 +171,7 @@ impl Suite {
         self.name.take_test(name);
     }
 
-    /// Takes the start of a test.
+    /// Takes the start of a test. Fails only if memory runs out, or the number of tests that started does not fit.
     pub(crate) fn on_start(&mut self, name: &str) -> Result<(), RunError> {
         self.started = one_more(self.started)?;
         self.on_name(name);

@@ -27,7 +27,7 @@ impl Totals {
         }
     }
 
-    /// Adds a suite.
+    /// Adds a suite. Fails only if a sum does not fit.
     pub(crate) fn add(&mut self, suite: &SuiteNote) -> Result<(), RunError> {
         self.end.stats.try_add(&suite.stats)?;
         let crashed = self.end.crashed.checked_add(suite.crashed);
@@ -57,7 +57,8 @@ impl Totals {
     }
 }
 
-/// Returns the outcome of a suite. It depends on whether all tests ran, and not on how many did not.
+/// Returns the outcome of a suite. It depends on whether all tests ran, and not on how many did not. Fails only if
+/// the number of finished tests is `usize::MAX`.
 fn outcome_of(suite: &SuiteNote) -> Result<RunOutcome, RunError> {
     let finished = suite.stats.finished_count;
     let stats = RunStats {

@@ -24,7 +24,8 @@ impl OpenSuites {
         self.started > 0
     }
 
-    /// Opens a suite. `others` are the other lines of the file before it. After an error suites may be missing.
+    /// Opens a suite. `others` are the other lines of the file before it. After an error suites may be missing. Fails
+    /// only if memory runs out, or the number of suites that started does not fit.
     pub(crate) fn open(
         &mut self,
         key: Option<String>,

@@ -53,7 +53,8 @@ impl TestRun {
         )
     }
 
-    /// Adds a disagreement if the command failed and nothing says why, and counts it.
+    /// Adds a disagreement if the command failed and nothing says why, and counts it. Fails only if memory runs out, or
+    /// a sum does not fit.
     pub(crate) fn end_command(&mut self, notes: &mut Vec<Note>) -> Result<(), RunError> {
         let Some(end) = self.command.take() else {
             return Ok(());

@@ -12,10 +12,10 @@ use std::rc::Rc;
 const TESTS_FAILED: &[u8] = b"error: test failed";
 
 impl TestRun {
-    /// Takes a heading of cargo.
+    /// Takes a heading of cargo. Fails only if memory runs out, or the number of headings does not fit.
     pub(crate) fn on_heading(&mut self, name: &str, path: Option<&str>) -> Result<(), RunError> {
         self.others.on_heading()?;
-        let own = self.headings.on_heading(name, path)?;
+        let own = self.headings.take_heading(name, path);
         let name = self.known_name(path).unwrap_or(own);
         self.heading = Some(Rc::new(name));
         Ok(())
@@ -26,14 +26,15 @@ impl TestRun {
         path.and_then(|path| self.names.get(path)).map(String::from)
     }
 
-    /// Takes a print.
+    /// Takes a print. Fails only if memory runs out, or the number of prints does not fit.
     pub(crate) fn on_print(&mut self, line: &str, plain: &str) -> Result<(), RunError> {
         self.others.on_print(line, plain)?;
         self.recent.take_line(plain);
         Ok(())
     }
 
-    /// Takes a line in which cargo or nextest reports a failure. If it disagrees, it counts from now on.
+    /// Takes a line in which cargo or nextest reports a failure. If it disagrees, it counts from now on. Fails only if
+    /// memory runs out, or the number of failed tests and disagreements does not fit.
     pub(crate) fn on_cargo_failed(
         &mut self,
         failure: CargoFailure,
@@ -94,9 +95,8 @@ fn begins(line: &[u8], front: &[u8]) -> bool {
 }
 
 /// Adds the disagreement of a damaged line that says a failure.
-pub(crate) fn push_damaged(text: &str, notes: &mut Vec<Note>) -> Result<(), RunError> {
+pub(crate) fn push_damaged(text: &str, notes: &mut Vec<Note>) {
     notes.push(Note::Disagreement(Disagreement::Damaged {
         text: String::from(shortened(text)),
     }));
-    Ok(())
 }

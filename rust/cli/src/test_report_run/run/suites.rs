@@ -83,7 +83,8 @@ impl TestRun {
         }
     }
 
-    /// Takes a last line of the open suite at a position.
+    /// Takes a last line of the open suite at a position. Fails only if memory runs out, or a number of the suite does not
+    /// fit.
     fn end_at(
         &mut self,
         end: SuiteEnd<'_>,

@@ -9,7 +9,7 @@ use crate::test_report_run::running::RunningTest;
 use crate::test_report_run::suite::OverTest;
 
 impl TestRun {
-    /// Takes the start of a test.
+    /// Takes the start of a test. Fails only if memory runs out, or a number of the run does not fit.
     pub(crate) fn on_test_started(&mut self, name: &str) -> Result<(), RunError> {
         let number = self.count_start(name)?;
         self.running.begin(name, number)

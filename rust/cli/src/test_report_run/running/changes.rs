@@ -21,7 +21,7 @@ impl Running {
     }
 
     /// Adds a test that starts. `suite` is the number of its suite, or `None` outside of a suite. After an error
-    /// tests may be missing.
+    /// tests may be missing. Fails only if memory runs out, or the number of tests that started does not fit.
     pub fn begin(&mut self, name: &str, suite: Option<usize>) -> Result<(), RunError> {
         let order = self.started;
         let started = one_more(order)?;
