@@ -6,7 +6,7 @@ use Rattle.std.specs.List.{flat_map}
 use Rattle.std.specs.Option.{option_to_list}
 use Rattle.std.specs.declared.alloc.Global.{Global}
 use Rattle.template.specs.Hole.{hole_text}
-use Rattle.template.specs.Template.{EachPart, HolePart, NonePart, TextPart, Parts, Values, has_items, if_none, item_in, items_of, part_step, part_text, part_view, parts_text, parts_view, text_of, value_view, values_view}
+use Rattle.template.specs.Template.{Parts, Values, has_items, if_none, item_in, items_of, part_step, part_text, part_view, parts_text, parts_view, text_of, value_view, values_view}
 use Rattle.template.specs.Template as spec
 use Rattle.template.specs.declared.part.Part.{Part, fold-roll-Part}
 use Rattle.template.specs.declared.part.Part.TheOpen.{Part-F}

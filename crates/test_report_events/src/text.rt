@@ -1,9 +1,7 @@
 //! Lines without JSON: headings, failures of cargo and prints.
 
-ghost use Rattle.std.specs.Prelude.{◌≡◌, ℕ, List, IfOk, MatchOption, drop, option_map, take};
-ghost use Rattle.bstr.specs.Find.{OccursAt};
+ghost use Rattle.std.specs.Prelude.{◌≡◌, ℕ, List, IfOk, option_map};
 ghost use Rattle.test_report_events.specs.Content as kept;
-ghost use Rattle.test_report_events.specs.Event.{EventView};
 ghost use Rattle.test_report_events.specs.Line as spec;
 ghost use Rattle.test_report_events.specs.Plain.{IsPlain, line_text};
 ghost use Rattle.test_report_events.specs.Table.{CargoContents, FindsEnd, IsLastFound};

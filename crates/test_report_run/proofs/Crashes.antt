@@ -1,6 +1,6 @@
 -- The tests of a suite that crash: the first one, and those after it.
 use Rattle.std.proofs.Common.{◌≡◌, ◌++◌, ◌+◌, ◌<◌, ℕ, suc, List, [], ◌∷◌, ap, append_assoc, arith, drop, length, take}
-use Rattle.test_report_run.specs.Note.{CrashView, HasCrashed, NoteView}
+use Rattle.test_report_run_notes.specs.Note.{CrashView, HasCrashed, NoteView}
 use Rattle.test_report_run.specs.Others.{OthersView}
 use Rattle.test_report_run.specs.Over.{crash_again, crash_of, crashed_notes, failed_notes, with_failed}
 use Rattle.test_report_run.specs.Running.{running_view}

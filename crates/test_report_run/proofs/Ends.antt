@@ -1,6 +1,6 @@
 -- The notes of a suite that ends, one after another.
 use Rattle.std.proofs.Common.{◌≡◌, ◌++◌, ◌+◌, ℕ, List, [], Option, false, length, drop, map, take, if◌then◌else◌, append_assoc}
-use Rattle.test_report_run.specs.Note.{HasNoEnd, NoteView}
+use Rattle.test_report_run_notes.specs.Note.{HasNoEnd, NoteView}
 use Rattle.test_report_run.specs.Others.{OthersView}
 use Rattle.test_report_run.specs.Over.{crash_of, crashed_notes, early_disagreements, early_notes, explained_of, failed_notes, flaky_notes, last_disagreement, last_notes, number_notes, skipped_note, with_all_flaky, with_failed}
 use Rattle.std.specs.Option.{option_or}

@@ -5,8 +5,8 @@ use Rattle.std.specs.Option.{option_map_or}
 use Rattle.std.proofs.lemmas.List.Elements.{All-cons, All-head, All-nil, All-tail}
 use Rattle.std.proofs.lemmas.List.Sums.{fold-append}
 use Rattle.test_report_events.specs.Event.{Cancels, CargoFails, CommandOver, CommandStarts, DamagedLine, EventView, HeadingLine, OtherLine, Prints, SuiteEnds, SuiteStarts, TestEnds, TestIsSlow, TestStarts}
+use Rattle.test_report_run_notes.specs.Note.{CargoSays, CargoView, Disagrees, NoteView}
 use Rattle.test_report_run.specs.Fits.{NoteFits, NotesFit}
-use Rattle.test_report_run.specs.Note.{CargoSays, CargoView, Disagrees, NoteView}
 use Rattle.test_report_run.specs.Others.{last_cause}
 use Rattle.test_report_run.specs.Over.{early_notes}
 use Rattle.test_report_run.specs.Run.{RunState, Step, after, after_file, all_ended_early, command_notes, ended_early, file_end, file_notes, held_told, learned, marked, no_event_notes, report_told, reports_told, run_after, settled, settled_at, step, tests_in, told, told_at}

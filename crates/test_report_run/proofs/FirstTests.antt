@@ -9,10 +9,10 @@ use Rattle.std.proofs.lemmas.Bool.{lt-ltb, le-ltb}
 use Rattle.std.proofs.Math.ListN.{set}
 use Rattle.std.proofs.lemmas.List.{length-map, map-set}
 use Rattle.std.proofs.lemmas.Option.{same_Some, slice_get-map, slice_get-get_or}
+use Rattle.test_report_run_notes.proofs.Places.{map-remove, position-map}
 use Rattle.test_report_run.specs.Running.{RunningView, no_test, running_at, running_test_view, running_view, with_slow}
 use Rattle.test_report_run.specs.declared.running.RunningTest.{RunningTest}
 use Rattle.test_report_run.proofs.Firsts.{IsFirst}
-use Rattle.test_report_run.proofs.Places.{map-remove, position-map}
 
 -- the position of the first test that passes
 place_view : (q : RunningView → Bool) (tests : List RunningTest) → position_or_len (λ t. q (running_test_view t)) tests < length tests

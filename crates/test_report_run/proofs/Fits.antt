@@ -10,12 +10,12 @@ use Rattle.std.proofs.lemmas.List.Sums.{fold-append}
 use Rattle.run_events_levels.specs.TestView.{TestView}
 use Rattle.run_events_stats.specs.Counters.{TestCountersFit, with_test}
 use Rattle.run_events_stats.specs.declared.stats.RunStats.{RunStats}
-use Rattle.test_report_run.specs.Counted.{view_of_finish}
+use Rattle.test_report_run_notes.specs.Finish.{view_of_finish}
+use Rattle.test_report_run_notes.specs.declared.finish.Finish.TheVariants as finish
 use Rattle.test_report_run.specs.Fits.{OnlyMemory}
 use Rattle.test_report_run.specs.Over.{early_state, explained_of, last_state, lost, one_failed, one_flaky, with_all_flaky, with_failed}
 use Rattle.test_report_run.specs.Running.{RunningView}
 use Rattle.test_report_run.specs.Suite.{SuiteState}
-use Rattle.test_report_run.specs.declared.counted.Finish.TheVariants as finish
 use Rattle.test_report_run.specs.declared.error.RunError.{RunError}
 use Rattle.test_report_run.specs.declared.error.RunError.TheVariants.{OutOfMemory}
 use Rattle.test_report_run.specs.declared.last_line.Explanation.{Explanation}

@@ -11,8 +11,8 @@ use Rattle.std.specs.String.{string_cmp}
 use Rattle.std.specs.declared.alloc.Global.{Global}
 use Rattle.std.proofs.lemmas.List.{length-map}
 use Rattle.std.proofs.lemmas.Map.Text.{is_eq-slice_cmp}
+use Rattle.test_report_run_notes.specs.Note.{text_view}
 use Rattle.test_report_run.specs.Headings.{headings_of, number_of, numbers_view, paths_of, with_heading, with_path}
-use Rattle.test_report_run.specs.Note.{text_view}
 use Rattle.test_report_run.specs.declared.headings.Headings.{Headings}
 use Rattle.test_report_run.specs.declared.headings.Paths.{Paths}
 use Rattle.test_report_run.proofs.Views.{entry_view, insert_entry-view, lookup-view}

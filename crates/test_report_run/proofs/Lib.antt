@@ -1,5 +1,4 @@
 pub mod Attempts
-pub mod Boundaries
 pub mod Crashes
 pub mod Ends
 pub mod EventsFit
@@ -9,14 +8,12 @@ pub mod Fits
 pub mod FirstTests
 pub mod Firsts
 pub mod HeadingViews
-pub mod InOrder
 pub mod KeySteps
 pub mod LastPrints
 pub mod Lines
 pub mod LongestEnds
 pub mod OpenSteps
 pub mod OrderSteps
-pub mod Places
 pub mod RunFits
 pub mod Runs
 pub mod Takes

@@ -2,7 +2,7 @@
 use Rattle.std.proofs.Common.{◌≡◌, ◌∙◌, ◌++◌, List, [], ◌∷◌, Option, ap, append_assoc, append-nil, option_to_list, refl, sym}
 use Rattle.std.proofs.lemmas.List.Sums.{fold-append}
 use Rattle.test_report_events.specs.Event.{EventView}
-use Rattle.test_report_run.specs.Note.{NoteView}
+use Rattle.test_report_run_notes.specs.Note.{NoteView}
 use Rattle.test_report_run.specs.Run.{RunState, after, learned, marked, notes_at, notes_of, run_after, settled_at, told}
 
 -- events, and then others

@@ -15,9 +15,9 @@ use Rattle.std.proofs.lemmas.List.Edits.{get_or-remove_above, get_or-remove_belo
 use Rattle.std.proofs.lemmas.List.Sorted.{searched}
 use Rattle.std.proofs.lemmas.Option.{none-some, same_Some}
 use Rattle.std.proofs.lemmas.Slice.Eq.{bytes_eq-Decides}
-use Rattle.test_report_run.proofs.Places.{position-map}
+use Rattle.test_report_run_notes.proofs.Places.{position-map}
+use Rattle.test_report_run_notes.specs.Note.{text_view}
 use Rattle.test_report_run.specs.Keys.{keys_in, number_at, numbers_in}
-use Rattle.test_report_run.specs.Note.{text_view}
 use Rattle.test_report_run.specs.OpenSuites.{states_in, suites_of}
 use Rattle.test_report_run.specs.Running.{is_same}
 use Rattle.test_report_run.specs.Suite.{SuiteState, has_key, outside_start, state_of}

@@ -10,16 +10,16 @@ use Rattle.run_events_stats.specs.Counters.{TestCountersFit}
 use Rattle.run_events_stats.specs.Sum.{CountersFit, sum_of}
 use Rattle.run_events_stats.specs.declared.stats.RunStats.{RunStats}
 use Rattle.test_report_events.specs.Event.{SuiteEndView}
+use Rattle.test_report_run_notes.specs.Note.{Disagrees, FlakyEnds, HasNoEnd, IsNotRun, NoteView, SuiteIs, TestIs, note_view, text_view}
+use Rattle.test_report_run_notes.specs.declared.note.Note.{Note}
+use Rattle.test_report_run_notes.specs.declared.note.RunEnd.{RunEnd}
 use Rattle.test_report_run.specs.Fits.{EndFits, NoteFits, NotesFit, SuiteFits}
-use Rattle.test_report_run.specs.Note.{Disagrees, FlakyEnds, HasNoEnd, IsNotRun, NoteView, SuiteIs, TestIs, note_view, text_view}
 use Rattle.test_report_run.specs.Others.{OthersView}
 use Rattle.test_report_run.specs.Over.{crash_of, crashed_notes, early_disagreements, early_notes, early_state, explained_of, failed_notes, flaky_notes, initial_of, last_disagreement, last_notes, last_state, lost, number_notes, rest_of, skipped_note}
 use Rattle.test_report_run.specs.Run.{RunState, ended_at, ended_early, heard, learned, open_suite, opened, started_again, step, stray_suite_notes, suite_at, suite_ends, suite_starts, with_note, with_suite_at}
 use Rattle.test_report_run.specs.RunFits.{SuitesFit, SumsFit}
 use Rattle.test_report_run.specs.Running.{RunningView}
 use Rattle.test_report_run.specs.Suite.{SuiteState, joined_by, state_of, suite_name}
-use Rattle.test_report_run.specs.declared.note.Note.{Note}
-use Rattle.test_report_run.specs.declared.note.RunEnd.{RunEnd}
 use Rattle.test_report_run.specs.declared.over.Rest.{Rest}
 use Rattle.test_report_run.specs.declared.suite.Suite.{Suite}
 use Rattle.test_report_run.proofs.FileEnds.{learned-more}

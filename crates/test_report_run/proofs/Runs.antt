@@ -7,10 +7,10 @@ use Rattle.std.proofs.Math.ListN.{set}
 use Rattle.std.proofs.lemmas.List.{get_or-map, get_or-set_same, map-set}
 use Rattle.std.proofs.lemmas.Option.{none-some}
 use Rattle.test_report_events.specs.Event.{SuiteEndView, TestEndView}
-use Rattle.test_report_run.specs.Note.{NoteView, text_view}
+use Rattle.test_report_run_notes.proofs.Places.{remove-set}
+use Rattle.test_report_run_notes.specs.Note.{NoteView, text_view}
 use Rattle.test_report_run.specs.Others.{event_place}
 use Rattle.test_report_run.specs.Over.{early_notes, last_notes}
-use Rattle.test_report_run.proofs.Places.{remove-set}
 use Rattle.test_report_run.specs.Run.{RunState, Step, ended_at, ended_early, heard, last_place, opened, running_ends, started_again, step, stray_ends, suite_at, suite_place, test_over, tests_in, with_suite_at, without_tests}
 use Rattle.test_report_run.specs.Running.{RunningView, ended_at as test_at}
 use Rattle.test_report_run.specs.Name.{before_dollar}

@@ -5,11 +5,11 @@ use Rattle.std.specs.Option.{option_map_or}
 use Rattle.std.specs.Str.{bytes_eq}
 use Rattle.test_report_events.specs.Event.{TestEndView}
 use Rattle.test_report_events.specs.declared.event.TestResult.TheVariants.{Ok, Failed, Ignored}
-use Rattle.test_report_run.specs.Counted.{finish_for}
-use Rattle.test_report_run.specs.Note.{FailureView, Fails, FlakyEnds, HasFailed, HasTimedOut, IsSkipped, NoteView, Passes}
+use Rattle.test_report_run_notes.specs.Finish.{finish_for}
+use Rattle.test_report_run_notes.specs.Note.{FailureView, Fails, FlakyEnds, HasFailed, HasTimedOut, IsSkipped, NoteView, Passes}
+use Rattle.test_report_run_notes.specs.declared.finish.Finish.TheVariants as finish
 use Rattle.test_report_run.specs.Said.{time_sum_of}
 use Rattle.test_report_run.specs.Suite.{FlakyView, OverView, SuiteState, named, test_note, test_of, with_finish}
-use Rattle.test_report_run.specs.declared.counted.Finish.TheVariants as finish
 
 -- the reason says that the test ran out of time
 abbrev pub is_time_limit : Option (List ℕ) → Bool

@@ -4,13 +4,13 @@ use Rattle.std.specs.List.{All}
 use Rattle.std.specs.declared.result.Result.{Result}
 use Rattle.run_events_stats.specs.Counters.{TestCountersFit}
 use Rattle.run_events_stats.specs.Sum.{CountersFit}
-use Rattle.test_report_run.specs.Note.{Disagrees, FlakyEnds, IsNotRun, NoteView, SuiteIs, TestIs}
+use Rattle.test_report_run_notes.specs.Note.{Disagrees, FlakyEnds, IsNotRun, NoteView, SuiteIs, TestIs}
+use Rattle.test_report_run_notes.specs.declared.note.RunEnd.{RunEnd}
 use Rattle.test_report_run.specs.Others.{OthersView}
 use Rattle.test_report_run.specs.Said.{numbers_of}
 use Rattle.test_report_run.specs.Suite.{SuiteState}
 use Rattle.test_report_run.specs.declared.error.RunError.{RunError}
 use Rattle.test_report_run.specs.declared.error.RunError.TheVariants.{OutOfMemory}
-use Rattle.test_report_run.specs.declared.note.RunEnd.{RunEnd}
 use Rattle.test_report_run.specs.declared.said.Said.{Said}
 
 -- if there is an error, memory ran out

@@ -7,7 +7,7 @@ use Rattle.std.specs.Map.{lookup}
 use Rattle.std.specs.Option.{option_cmp, option_eq, unwrap_or}
 use Rattle.std.specs.Ordering.{nat_cmp}
 use Rattle.std.specs.Str.{bytes_eq}
-use Rattle.test_report_run.specs.Note.{text_view}
+use Rattle.test_report_run_notes.specs.Note.{text_view}
 use Rattle.test_report_run.specs.declared.headings.Headings.{Headings}
 use Rattle.test_report_run.specs.declared.headings.Paths.{Paths}
 

@@ -1,9 +1,9 @@
 -- What the last line of a suite explains.
 use Rattle.std.specs.Prelude.{◌+◌, ◌-◌, ◌==◌, ◌&&◌, ◌||◌, ℕ, Bool, false, not, if◌then◌else◌, nat_lt, nat_le, min}
 use Rattle.std.specs.Option.{option_map_or}
+use Rattle.test_report_run_notes.specs.declared.note.SaidNumbers.{SaidNumbers}
 use Rattle.test_report_run.specs.declared.last_line.Explanation.{Explanation}
 use Rattle.test_report_run.specs.declared.last_line.Tally.{Tally}
-use Rattle.test_report_run.specs.declared.note.SaidNumbers.{SaidNumbers}
 
 -- how many tests ended
 abbrev pub ended_of : Tally → ℕ

@@ -1,14 +1,11 @@
-pub mod Counted
 pub mod Ended
 pub mod Events
 pub mod Fits
 pub mod Headings
-pub mod InOrder
 pub mod Keys
 pub mod LastLine
 pub mod LongestEnd
 pub mod Name
-pub mod Note
 pub mod OpenSuites
 pub mod Orders
 pub mod Others

@@ -1,15 +1,7 @@
 -- Lines that are cut, and the longest end of lines that fits.
-use Rattle.std.specs.Prelude.{◌&&◌, ◌||◌, ◌+◌, ◌++◌, ◌∷◌, [], ℕ, zero, suc, List, Bool, drop, if◌then◌else◌, length, nat_le, nat_lt, slice_index, unwrap_or}
+use Rattle.std.specs.Prelude.{◌+◌, ◌++◌, ◌∷◌, [], ℕ, List, Bool, drop, length, nat_le, unwrap_or}
 use Rattle.std.specs.List.{find, join_with_byte, range_with_len, slice_range, sum_by}
-
--- a text may be cut at this place: it is not inside a character
-abbrev pub is_boundary : List ℕ → ℕ → Bool
-is_boundary line i = nat_le i (length line) && (nat_le (length line) i || (nat_lt (slice_index line i) 128 || nat_le 192 (slice_index line i)))
-
--- the last place up to this one at which a text may be cut
-abbrev pub floor_of : List ℕ → ℕ → ℕ
-floor_of line zero = 0
-floor_of line (suc n) = if is_boundary line (suc n) then suc n else floor_of line n
+use Rattle.test_report_run_notes.specs.Texts.{floor_of}
 
 -- at most this many bytes of a line, cut at a character. It does not unfold by itself, since it tries as many places
 unfoldable pub cut_to : ℕ → List ℕ → List ℕ

@@ -2,7 +2,7 @@
 use Rattle.std.specs.Prelude.{◌==◌, ◌+◌, ◌++◌, ◌∷◌, [], ℕ, List, Bool, codes, if◌then◌else◌, length, map, slice_get, slice_index_or, Option, Some, None, option_and_then, option_map, option_to_list}
 use Rattle.std.specs.Str.{bytes_eq}
 use Rattle.test_report_events.specs.Time.{without_spaces}
-use Rattle.test_report_run.specs.Note.{text_view}
+use Rattle.test_report_run_notes.specs.Note.{text_view}
 use Rattle.test_report_run.specs.Prints.{PrintsView, cut, last_from, no_prints, prints_view, text_from, with_print}
 use Rattle.test_report_run.specs.declared.others.EventPlace.{EventPlace}
 use Rattle.test_report_run.specs.declared.others.Others.{Others}
@@ -118,5 +118,5 @@ abbrev pub last_prints_from : OthersView → PrintPlace → List (List ℕ)
 last_prints_from o at = last_from (part_at o at.part) at.print
 
 -- the cause of the first failure after an event, unless a heading came between them
-abbrev pub cause_behind : OthersView → EventPlace → Option (List ℕ)
-cause_behind o at = option_and_then (λ f. if f.headings == at.headings then f.cause else None) (slice_get (all_failures o) at.failures)
+abbrev pub cause_after : OthersView → EventPlace → Option (List ℕ)
+cause_after o at = option_and_then (λ f. if f.headings == at.headings then f.cause else None) (slice_get (all_failures o) at.failures)

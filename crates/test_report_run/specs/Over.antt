@@ -4,14 +4,14 @@ use Rattle.std.specs.List.{fold}
 use Rattle.std.specs.Option.{option_map_or, option_or}
 use Rattle.run_events_stats.specs.Counters.{with_test}
 use Rattle.run_events_stats.specs.declared.stats.RunStats.{RunStats}
-use Rattle.test_report_run.specs.Counted.{view_of_finish}
+use Rattle.test_report_run_notes.specs.Finish.{view_of_finish}
+use Rattle.test_report_run_notes.specs.Note.{CrashView, Disagrees, EndsEarly, FailureView, Fails, HasCrashed, HasNoEnd, IsFlaky, IsNotRun, IsSkipped, KindView, NoteView, OutcomeView, Passes, SaysOther, StartsOutside, SuiteIs, failed_of}
+use Rattle.test_report_run_notes.specs.declared.finish.Finish.TheVariants as finish
 use Rattle.test_report_run.specs.LastLine.{explanation_of, is_contradicted}
-use Rattle.test_report_run.specs.Note.{CrashView, Disagrees, EndsEarly, FailureView, Fails, HasCrashed, HasNoEnd, IsFlaky, IsNotRun, IsSkipped, KindView, NoteView, OutcomeView, Passes, SaysOther, StartsOutside, SuiteIs}
-use Rattle.test_report_run.specs.Others.{OthersView, cause_behind, last_prints_from, prints_from}
+use Rattle.test_report_run.specs.Others.{OthersView, cause_after, last_prints_from, prints_from}
 use Rattle.test_report_run.specs.Running.{RunningView}
 use Rattle.test_report_run.specs.Said.{numbers_of}
-use Rattle.test_report_run.specs.Suite.{FlakyView, OverView, SuiteState, failed_of, suite_name, tally_of, test_note}
-use Rattle.test_report_run.specs.declared.counted.Finish.TheVariants as finish
+use Rattle.test_report_run.specs.Suite.{FlakyView, OverView, SuiteState, suite_name, tally_of, test_note}
 use Rattle.test_report_run.specs.declared.last_line.Explanation.{Explanation}
 use Rattle.test_report_run.specs.declared.over.Rest.{Rest}
 
@@ -36,7 +36,7 @@ abbrev pub crash_of : OthersView → SuiteState → ℕ → CrashView
 crash_of others s running = record {
   running = running;
   has_key = is_some s.key;
-  cause = cause_behind others s.last_event;
+  cause = cause_after others s.last_event;
   prints = prints_from others s.start;
   last = last_prints_from others s.start;
   above = false;

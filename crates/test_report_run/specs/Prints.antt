@@ -1,14 +1,10 @@
 -- Prints: lines that are neither events of a harness nor headings or failures of cargo.
-use Rattle.std.specs.Prelude.{◌==◌, ◌+◌, ◌-◌, ◌++◌, ◌∷◌, [], ℕ, List, Bool, drop, filter, if◌then◌else◌, length, map, nat_le, string_bytes}
-use Rattle.std.specs.Str.{trim}
+use Rattle.std.specs.Prelude.{◌+◌, ◌-◌, ◌++◌, ◌∷◌, [], ℕ, List, drop, filter, if◌then◌else◌, length, map, nat_le, string_bytes}
+use Rattle.test_report_run_notes.specs.Texts.{is_blank}
 use Rattle.test_report_run.specs.LongestEnd.{cut_to, joined, with_kept}
 use Rattle.test_report_run.specs.declared.longest_end.LongestEnd.{LongestEnd}
 use Rattle.test_report_run.specs.declared.prints.LastPrint.{LastPrint}
 use Rattle.test_report_run.specs.declared.prints.Prints.{Prints}
-
--- the line is blank
-abbrev pub is_blank : List ℕ → Bool
-is_blank line = length (trim line) == 0
 
 -- at most 200 bytes of a line
 abbrev pub cut : List ℕ → List ℕ

@@ -1,10 +1,11 @@
 -- How far a run is.
 use Rattle.std.specs.Prelude.{◌+◌, ◌-◌, ◌^◌, ℕ, List, Bool, length, min, nat_lt, Option, option_map, slice_get, unwrap_or}
 use Rattle.std.specs.List.{fold}
+use Rattle.test_report_run_notes.specs.Note.{failed_of}
+use Rattle.test_report_run_notes.specs.declared.note.RunEnd.{RunEnd}
 use Rattle.test_report_run.specs.Run.{RunState, end_of, place_of_number, suite_at}
 use Rattle.test_report_run.specs.Running.{RunningView}
-use Rattle.test_report_run.specs.Suite.{SuiteState, failed_of, suite_name}
-use Rattle.test_report_run.specs.declared.note.RunEnd.{RunEnd}
+use Rattle.test_report_run.specs.Suite.{SuiteState, suite_name}
 use Rattle.test_report_run.specs.declared.run.progress.FirstRunning.{FirstRunning}
 use Rattle.test_report_run.specs.declared.run.progress.RunNumbers.{RunNumbers}
 

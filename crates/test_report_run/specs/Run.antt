@@ -9,12 +9,13 @@ use Rattle.test_report_events.specs.Event.{BySignal, Cancels, CommandView, Event
 use Rattle.test_report_events.specs.declared.event.CargoFailure.{CargoFailure}
 use Rattle.test_report_events.specs.declared.event.CargoFailure.TheVariants.{Build, Tests, Run}
 use Rattle.test_report_events.specs.declared.event.TestResult.TheVariants.{Ok, Failed, Ignored}
+use Rattle.test_report_run_notes.specs.Note.{CargoSays, CargoView, CommandFails, Disagrees, Fails, FlakyEnds, HasNoEvent, IsDamaged, IsNotRun, IsSkipped, NoteView, OutcomeView, Passes, StrayEnds, StraySuiteEnds, SuiteIs, TestIs, cargo_view, command_view, ended_well, is_new_disagreement, was_not_started}
+use Rattle.test_report_run_notes.specs.declared.note.RunEnd.{RunEnd}
 use Rattle.test_report_run.specs.Ended.{after_end, after_stray, end_notes, stray_notes}
 use Rattle.test_report_run.specs.Events.{is_after_report, is_event}
 use Rattle.test_report_run.specs.Headings.{NamedPaths, headings_of, shown_by, with_heading}
 use Rattle.test_report_run.specs.LongestEnd.{joined, with_kept}
 use Rattle.test_report_run.specs.OpenSuites.{suites_of}
-use Rattle.test_report_run.specs.Note.{CargoSays, CargoView, CommandFails, Disagrees, Fails, FlakyEnds, HasNoEvent, IsDamaged, IsNotRun, IsSkipped, NoteView, OutcomeView, Passes, StrayEnds, StraySuiteEnds, SuiteIs, TestIs, cargo_view, command_view, ended_well, is_new_disagreement, was_not_started}
 use Rattle.test_report_run.specs.Over.{early_notes, last_notes}
 use Rattle.test_report_run.specs.Others.{OthersView, after_failure, after_heading, after_print, event_place, last_cause, no_others, others_view}
 use Rattle.test_report_run.specs.Prints.{cut, lines_of}
@@ -23,7 +24,6 @@ use Rattle.test_report_run.specs.Name.{before_dollar}
 use Rattle.test_report_run.specs.Suite.{OverView, SuiteState, cancelled_by, has_key, joined_by, outside_start, state_of, suite_start, with_line, with_start}
 use Rattle.test_report_run.specs.SuiteNames.{names_of}
 use Rattle.test_report_run.specs.Totals.{ending, no_suites, with_suite}
-use Rattle.test_report_run.specs.declared.note.RunEnd.{RunEnd}
 use Rattle.test_report_run.specs.declared.run.TestRun.{TestRun}
 
 -- what is kept of a run

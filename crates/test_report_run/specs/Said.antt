@@ -1,7 +1,7 @@
 -- What the last lines of a suite say together.
 use Rattle.std.specs.Prelude.{◌+◌, ◌-◌, ◌^◌, ◌||◌, ℕ, false, min, Option, Some, None, option_map, unwrap_or}
 use Rattle.test_report_events.specs.Event.{SuiteEndView}
-use Rattle.test_report_run.specs.declared.note.SaidNumbers.{SaidNumbers}
+use Rattle.test_report_run_notes.specs.declared.note.SaidNumbers.{SaidNumbers}
 use Rattle.test_report_run.specs.declared.said.Said.{Said}
 
 -- the sum of two numbers that may be absent: it is absent only if both are

@@ -7,12 +7,12 @@ use Rattle.run_events_results.specs.declared.results.CancelReason.{CancelReason}
 use Rattle.run_events_stats.specs.Counters.{counters_of, nothing_known, with_test}
 use Rattle.run_events_stats.specs.declared.stats.RunStats.{RunStats}
 use Rattle.test_report_events.specs.Event.{SuiteEndView}
-use Rattle.test_report_run.specs.Counted.{view_of_finish}
+use Rattle.test_report_run_notes.specs.Finish.{view_of_finish}
+use Rattle.test_report_run_notes.specs.Note.{NoteView, OutcomeView, TestIs, TestNoteView, failed_of, text_view}
+use Rattle.test_report_run_notes.specs.declared.finish.Finish.{Finish}
 use Rattle.test_report_run.specs.Name.{name_by}
-use Rattle.test_report_run.specs.Note.{NoteView, OutcomeView, TestIs, TestNoteView, text_view}
 use Rattle.test_report_run.specs.Others.{OthersView, event_place, no_others, print_place}
 use Rattle.test_report_run.specs.Said.{no_lines, sum_of, with_said}
-use Rattle.test_report_run.specs.declared.counted.Finish.{Finish}
 use Rattle.test_report_run.specs.declared.flaky.FlakyTests.{FlakyTests}
 use Rattle.test_report_run.specs.declared.last_line.Tally.{Tally}
 use Rattle.test_report_run.specs.declared.others.EventPlace.{EventPlace}
@@ -166,10 +166,6 @@ test_note s t outcome = TestIs (test_of s t outcome)
 -- one more test finished
 abbrev pub with_finish : SuiteState → Finish → ℕ → Bool → SuiteState
 with_finish s how attempts slow = record s { stats = with_test s.stats (view_of_finish how attempts slow) }
-
--- how many tests failed
-abbrev pub failed_of : RunStats → ℕ
-failed_of stats = stats.finished_count - stats.passed
 
 -- the tests of a suite of which `left` are running
 abbrev pub tally_of : SuiteState → ℕ → Tally

@@ -7,9 +7,9 @@ use Rattle.run_events_stats.specs.Summary.{summary_of}
 use Rattle.run_events_stats.specs.declared.outcome.RunFailureStep.TheVariants as step
 use Rattle.run_events_stats.specs.declared.outcome.run_outcome.RunOutcome.{RunOutcome}
 use Rattle.run_events_stats.specs.declared.outcome.run_outcome.RunOutcome.TheVariants as outcome
-use Rattle.test_report_run.specs.Note.{SuiteNoteView}
+use Rattle.test_report_run_notes.specs.Note.{SuiteNoteView}
+use Rattle.test_report_run_notes.specs.declared.note.RunEnd.{RunEnd}
 use Rattle.test_report_run.specs.Said.{time_sum_of}
-use Rattle.test_report_run.specs.declared.note.RunEnd.{RunEnd}
 
 -- the outcome of a suite: that of its statistics, with one more test to run if some were not run
 abbrev pub suite_outcome : SuiteNoteView → RunOutcome

@@ -4,18 +4,19 @@ ghost use Rattle.std.specs.Prelude.{◌≡◌, ◌++◌, [], IfOk, OnOk, map, op
 ghost use Rattle.run_events_stats.specs.Counters.{TestCountersFit};
 ghost use Rattle.test_report_events.specs.Event.{test_end_view};
 ghost use Rattle.test_report_events.specs.declared.event.TestResult.TheVariants as ended;
+ghost use Rattle.test_report_run_notes.specs.Note.{failure_view, note_view, text_view};
 ghost use Rattle.test_report_run.specs.Ended as spec;
 ghost use Rattle.test_report_run.specs.Fits.{OnlyMemory, SuiteFits};
-ghost use Rattle.test_report_run.specs.Note.{failure_view, note_view, text_view};
 ghost use Rattle.test_report_run.specs.Suite.{over_view, state_of};
 
-use crate::counted::{Finish, count};
+use crate::counted::count;
 use crate::error::{RunError, one_more};
-use crate::note::{Failure, FailureKind, Note, TestOutcome};
 use crate::said::time_sum;
 use crate::suite::{FlakyTest, OverTest, Suite};
 use std::alloc::{AllocError, Global};
 use test_report_events::event::{TestDetails, TestResult};
+use test_report_run_notes::finish::Finish;
+use test_report_run_notes::note::{Failure, FailureKind, Note, TestOutcome};
 
 /// The reason of the harness for a test that ran out of time.
 const TIME_LIMIT: &str = "time limit exceeded";

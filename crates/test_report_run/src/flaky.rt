@@ -1,7 +1,7 @@
 //! The flaky tests of a suite.
 
 ghost use Rattle.std.specs.Prelude.{length};
-ghost use Rattle.test_report_run.specs.InOrder.{IsPlaced};
+ghost use Rattle.test_report_run_notes.specs.InOrder.{IsPlaced};
 
 mod changes;
 

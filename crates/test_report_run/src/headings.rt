@@ -1,8 +1,8 @@
 //! The names that headings give suites.
 
 ghost use Rattle.std.specs.Prelude.{◌≡◌, [], IfOk, OnOk, option_map, string_bytes};
+ghost use Rattle.test_report_run_notes.specs.Note.{text_view};
 ghost use Rattle.test_report_run.specs.Headings.{headings_of, number_of, numbers_view, paths_of, shown_by, with_heading, with_path};
-ghost use Rattle.test_report_run.specs.Note.{text_view};
 
 use std::alloc::{AllocError, Global};
 use std::collections::BTreeMap;

@@ -4,7 +4,7 @@ ghost use Rattle.std.specs.Prelude.{◌≡◌, ◌+◌, ◌-◌, ◌≤◌, ◌<
 ghost use Rattle.std.specs.Option.{option_map_or};
 ghost use Rattle.test_report_run.specs.LastLine.{ended_of, room_of, not_started_of, explanation_of, flaky_failed, is_contradicted};
 
-use crate::note::SaidNumbers;
+use test_report_run_notes::note::SaidNumbers;
 
 /// The numbers of tests of a suite before its last line is looked at.
 #[derive(Clone, Copy)]

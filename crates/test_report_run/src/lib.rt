@@ -3,7 +3,7 @@
 //!
 //! Make a `TestRun`, and pass each line to `on_line`. Call `end_file` after the last line of each file, and
 //! `end` after the last file. `on_line` and `end_file` return notes, for example that a test failed. `end`
-//! returns the counts and the outcome of the run.
+//! returns the counts and the outcome of the run. The types of both are in `test_report_run_notes`.
 //!
 //! This function does so for a run of one file, with the lines `lines`:
 //!
@@ -24,7 +24,7 @@
 //! ```
 #![tactic(auto)]
 
-pub mod counted;
+mod counted;
 mod cuts;
 mod ended;
 pub mod error;
@@ -32,7 +32,6 @@ mod flaky;
 mod headings;
 mod last_line;
 mod longest_end;
-pub mod note;
 mod open_suites;
 mod others;
 mod over;

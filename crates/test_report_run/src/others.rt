@@ -2,8 +2,8 @@
 
 ghost use Rattle.std.specs.Prelude.{◌≡◌, ◌==◌, ◌++◌, ◌∷◌, [], IfOk, OnOk, map, not, option_map, slice_get, string_bytes};
 ghost use Rattle.std.specs.List.{position};
+ghost use Rattle.test_report_run_notes.specs.Note.{text_view};
 ghost use Rattle.test_report_run.specs.Fits.{OnlyMemory, OthersFit};
-ghost use Rattle.test_report_run.specs.Note.{text_view};
 ghost use Rattle.test_report_run.specs.Others as spec;
 ghost use Rattle.test_report_run.specs.Others.{others_view, reported_view};
 ghost use Rattle.test_report_run.specs.Prints.{no_prints, prints_view};
@@ -219,12 +219,12 @@ impl Others {
     }
 
     /// Returns the cause of the first failure after an event, unless a heading came between them.
-    pub(crate) fn cause_behind(
+    pub(crate) fn cause_after(
         &self,
         alloc: Global,
         at: EventPlace,
     ) -> Result<Option<String>, AllocError>
-        ensures { IfOk result (λ cause. text_view cause ≡ spec.cause_behind (others_view self.now) at) }
+        ensures { IfOk result (λ cause. text_view cause ≡ spec.cause_after (others_view self.now) at) }
     {
         match self.failure_at(at.failures) {
             Some(failure) if failure.headings == at.headings => match &failure.cause {

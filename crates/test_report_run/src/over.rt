@@ -2,26 +2,27 @@
 
 ghost use Rattle.std.specs.Prelude.{◌≡◌, ◌++◌, ◌∷◌, [], ◌+◌, ◌<◌, ◌^◌, is_some, IfOk, IsOk, OnOk, map, true, length, if◌then◌else◌, ◌≤◌};
 ghost use Rattle.run_events_stats.specs.Counters.{TestCountersFit};
+ghost use Rattle.test_report_run_notes.specs.Note.{HasCrashed, HasNoEnd, crash_view, kind_view, note_view};
 ghost use Rattle.test_report_run.specs.Fits.{ExplainedFits, FitsWide, OnlyMemory};
-ghost use Rattle.test_report_run.specs.Note.{HasCrashed, HasNoEnd, crash_view, kind_view, note_view};
 ghost use Rattle.test_report_run.specs.Others.{others_view};
 ghost use Rattle.test_report_run.specs.Over as spec;
 ghost use Rattle.test_report_run.specs.Running.{running_test_view, running_view};
 ghost use Rattle.test_report_run.specs.Said.{numbers_of};
 ghost use Rattle.test_report_run.specs.Suite.{flaky_view, over_view, state_of};
 
-use crate::counted::{Finish, count};
+use crate::counted::count;
 use crate::error::{RunError, one_more};
 use crate::flaky::FlakyTests;
 use crate::last_line::{Explanation, disagrees, explained};
-use crate::note::{
-    Crash, Disagreement, Failure, FailureKind, NotRun, Note, SuiteNote, TestOutcome, failed_count,
-};
 use crate::others::Others;
 use crate::running::RunningTest;
 use crate::suite::{FlakyTest, OverTest, Suite};
 use std::alloc::{AllocError, Global};
 use std::rc::Rc;
+use test_report_run_notes::finish::Finish;
+use test_report_run_notes::note::{
+    Crash, Disagreement, Failure, FailureKind, NotRun, Note, SuiteNote, TestOutcome, failed_count,
+};
 
 /// The numbers of a suite that its finished tests do not give.
 #[derive(Clone, Copy)]
@@ -173,7 +174,7 @@ impl Suite {
         Ok(Crash {
             running,
             has_key: self.name.key.is_some(),
-            cause: others.cause_behind(alloc, self.last_event)?,
+            cause: others.cause_after(alloc, self.last_event)?,
             prints: Rc::new(alloc, others.prints_from(alloc, self.start)?)?,
             last: others.last_prints_from(alloc, self.start)?,
             above: false,

@@ -3,9 +3,9 @@
 ghost use Rattle.std.specs.Prelude.{◌≡◌, ◌++◌, ◌∷◌, [], IfOk, IsOk, OnOk, if◌then◌else◌, map, option_map, option_to_list};
 ghost use Rattle.test_report_events.specs.Content.{events_of};
 ghost use Rattle.test_report_events.specs.Event.{event_view};
+ghost use Rattle.test_report_run_notes.specs.Note.{disagreement_view, is_new_disagreement, note_view};
 ghost use Rattle.test_report_run.specs.Events.{is_after_report, is_event};
 ghost use Rattle.test_report_run.specs.Fits.{NotesFit, OnlyMemory};
-ghost use Rattle.test_report_run.specs.Note.{disagreement_view, is_new_disagreement, note_view};
 ghost use Rattle.test_report_run.specs.Run as spec;
 ghost use Rattle.test_report_run.specs.Run.{run_state};
 ghost use Rattle.test_report_run.specs.RunFits.{EachFits, EventFits, RunFits, SumsFit, ToldFits};
@@ -19,7 +19,6 @@ mod test_lines;
 use crate::error::{RunError, one_more};
 use crate::headings::Headings;
 use crate::longest_end::LongestEnd;
-use crate::note::{CargoReport, CommandEnd, Disagreement, Note, RunEnd, TestOutcome};
 use crate::open_suites::OpenSuites;
 use crate::others::Others;
 use crate::run::lines::push_damaged;
@@ -32,6 +31,9 @@ use std::alloc::{AllocError, Global};
 use std::rc::Rc;
 use test_report_events::event::Event;
 use test_report_events::line::Line;
+use test_report_run_notes::note::{
+    CargoReport, CommandEnd, Disagreement, Note, RunEnd, TestOutcome,
+};
 
 /// A test run, up to the line that was passed last.
 #[derive(Drop)]

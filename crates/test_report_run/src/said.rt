@@ -6,8 +6,8 @@ ghost use Rattle.test_report_run.specs.Fits.{FitsWide, SaidFits};
 ghost use Rattle.test_report_run.specs.Said.{numbers_of, sum_of, time_sum_of, with_said};
 
 use crate::error::RunError;
-use crate::note::SaidNumbers;
 use test_report_events::event::SuiteEnd;
+use test_report_run_notes::note::SaidNumbers;
 
 /// Adds two numbers that may be absent. The sum is absent only if both are. Fails only if the sum does not
 /// fit.

@@ -2,15 +2,14 @@
 
 ghost use Rattle.std.specs.Prelude.{◌≡◌, ◌==◌, ◌+◌, ◌<◌, ◌^◌, ◌↔◌, IfOk, IsOk, OnOk, option_map, string_bytes};
 ghost use Rattle.test_report_events.specs.Event.{suite_end_view};
+ghost use Rattle.test_report_run_notes.specs.Note.{note_view, outcome_view, test_view, text_view};
 ghost use Rattle.test_report_run.specs.Fits.{FitsWide, OnlyMemory, SaidFits};
-ghost use Rattle.test_report_run.specs.Note.{note_view, outcome_view, test_view, text_view};
 ghost use Rattle.test_report_run.specs.Others.{no_others, others_view};
 ghost use Rattle.test_report_run.specs.Suite.{has_key, joined_by, named, outside_start, over_view, state_of, suite_name, suite_start, tally_of, test_note, test_of, with_line, with_start};
 
 use crate::error::{RunError, one_more};
 use crate::flaky::FlakyTests;
 use crate::last_line::Tally;
-use crate::note::{Note, TestNote, TestOutcome, failed_count};
 use crate::others::{EventPlace, Others, PrintPlace};
 use crate::said::{Said, sum};
 use crate::suite_name::SuiteName;
@@ -19,6 +18,7 @@ use run_events_stats::stats::RunStats;
 use std::alloc::{AllocError, Global};
 use std::rc::Rc;
 use test_report_events::event::SuiteEnd;
+use test_report_run_notes::note::{Note, TestNote, TestOutcome, failed_count};
 
 /// A test that is over, without its outcome.
 #[derive(Drop)]

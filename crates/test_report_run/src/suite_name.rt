@@ -2,8 +2,8 @@
 
 ghost use Rattle.std.specs.Prelude.{◌≡◌, IfOk, OnOk, None, Some, option_and_then, option_map, string_bytes};
 ghost use Rattle.std.specs.Option.{option_or};
+ghost use Rattle.test_report_run_notes.specs.Note.{text_view};
 ghost use Rattle.test_report_run.specs.Name.{before_dollar, given_by, name_by, name_of};
-ghost use Rattle.test_report_run.specs.Note.{text_view};
 
 use std::alloc::{AllocError, Global};
 use std::rc::Rc;

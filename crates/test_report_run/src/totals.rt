@@ -1,15 +1,15 @@
 //! The sums over all suites of a run.
 
 ghost use Rattle.std.specs.Prelude.{◌≡◌, ◌+◌, ◌<◌, ◌^◌, ◌↔◌, IfOk, IsOk, OnOk};
+ghost use Rattle.test_report_run_notes.specs.Note.{suite_view};
 ghost use Rattle.test_report_run.specs.Fits.{EndFits};
-ghost use Rattle.test_report_run.specs.Note.{suite_view};
 ghost use Rattle.test_report_run.specs.Totals.{ending, no_suites, suite_outcome, with_suite};
 
 use crate::error::{RunError, one_more};
-use crate::note::{RunEnd, SuiteNote};
 use crate::said::time_sum;
 use run_events_stats::outcome::{RunFailureStep, RunOutcome};
 use run_events_stats::stats::RunStats;
+use test_report_run_notes::note::{RunEnd, SuiteNote};
 
 /// The sums over the suites that are over.
 #[derive(Clone, Copy)]

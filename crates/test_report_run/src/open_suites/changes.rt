@@ -2,8 +2,8 @@
 
 ghost use Rattle.std.specs.Prelude.{◌≡◌, ◌<◌, ◌^◌, ◌+◌, ◌++◌, ◌∷◌, [], Some, None, OnOk, length, nat_lt, option_map, slice_get, string_bytes};
 ghost use Rattle.std.specs.List.{position, remove};
+ghost use Rattle.test_report_run_notes.specs.Note.{text_view};
 ghost use Rattle.test_report_run.specs.Fits.{OnlyMemory};
-ghost use Rattle.test_report_run.specs.Note.{text_view};
 ghost use Rattle.test_report_run.specs.OpenSuites.{states_in, suites_of};
 ghost use Rattle.test_report_run.specs.Others.{others_view};
 ghost use Rattle.test_report_run.specs.Running.{is_same};

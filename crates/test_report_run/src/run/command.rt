@@ -2,7 +2,7 @@
 
 ghost use Rattle.std.specs.Prelude.{◌≡◌, ◌++◌, ◌||◌, IfOk, OnOk, map, option_map};
 ghost use Rattle.test_report_events.specs.Event.{Cancels, CommandOver, CommandStarts};
-ghost use Rattle.test_report_run.specs.Note.{CargoSays, Disagrees, cargo_view, command_view, ended_well, note_view, was_not_started};
+ghost use Rattle.test_report_run_notes.specs.Note.{CargoSays, Disagrees, cargo_view, command_view, ended_well, note_view, was_not_started};
 ghost use Rattle.test_report_run.specs.Fits.{OnlyMemory};
 ghost use Rattle.test_report_run.specs.Run as spec;
 ghost use Rattle.test_report_run.specs.Run.{run_state};
@@ -10,11 +10,11 @@ ghost use Rattle.test_report_run.specs.RunFits.{SumsFit};
 ghost use Rattle.test_report_run.specs.SuiteNames.{names_of};
 
 use crate::error::RunError;
-use crate::note::{CargoReport, CommandEnd, Disagreement, Note};
 use crate::run::TestRun;
 use crate::suite_names::SuiteNames;
 use run_events_results::results::CancelReason;
 use std::alloc::{AllocError, Global};
+use test_report_run_notes::note::{CargoReport, CommandEnd, Disagreement, Note};
 
 impl TestRun {
     /// Notes that the next lines, up to the next call of `end_file`, are the output of a command. Failures that cargo

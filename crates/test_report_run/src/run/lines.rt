@@ -3,8 +3,8 @@
 ghost use Rattle.std.specs.List.{starts_with};
 ghost use Rattle.std.specs.Map.{lookup};
 ghost use Rattle.std.specs.Prelude.{◌≡◌, ◌<◌, ◌^◌, ◌++◌, ◌∷◌, [], IfOk, OnOk, map, nat_eq, option_and_then, option_map};
+ghost use Rattle.test_report_run_notes.specs.Note.{Disagrees, IsDamaged, note_view, text_view};
 ghost use Rattle.test_report_run.specs.Fits.{OnlyMemory, OthersFit};
-ghost use Rattle.test_report_run.specs.Note.{Disagrees, IsDamaged, note_view, text_view};
 ghost use Rattle.test_report_run.specs.Prints.{cut};
 ghost use Rattle.test_report_run.specs.Run as spec;
 ghost use Rattle.test_report_run.specs.Run.{run_state};
@@ -12,11 +12,11 @@ ghost use Rattle.std.specs.Str.{bytes_eq};
 
 use crate::cuts::shortened;
 use crate::error::{RunError, one_more};
-use crate::note::{CargoReport, Disagreement, Note};
 use crate::run::TestRun;
 use std::alloc::{AllocError, Global};
 use std::rc::Rc;
 use test_report_events::event::CargoFailure;
+use test_report_run_notes::note::{CargoReport, Disagreement, Note};
 
 /// The front of the line in which cargo says that tests failed.
 const TESTS_FAILED: &[u8] = b"error: test failed";

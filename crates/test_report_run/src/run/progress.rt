@@ -6,9 +6,9 @@ ghost use Rattle.test_report_run.specs.Progress.{first_view};
 ghost use Rattle.test_report_run.specs.Run.{run_state};
 ghost use Rattle.test_report_run.specs.Suite.{state_of};
 
-use crate::note::{RunEnd, failed_count};
 use crate::run::TestRun;
 use crate::suite::Suite;
+use test_report_run_notes::note::{RunEnd, failed_count};
 
 /// The numbers of tests of a run up to now. A number that does not fit is the greatest that does.
 #[derive(Clone, Copy, Debug, PartialEq, Eq)]

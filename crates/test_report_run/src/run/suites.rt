@@ -3,8 +3,8 @@
 ghost use Rattle.std.specs.Prelude.{◌≡◌, ◌++◌, ◌+◌, ◌<◌, ◌^◌, ◌==◌, ◌↔◌, [], Some, IfOk, IsOk, OnOk, length, map, option_map};
 ghost use Rattle.std.specs.List.{position, remove};
 ghost use Rattle.test_report_events.specs.Event.{SuiteEnds, suite_end_view, text_of_key};
+ghost use Rattle.test_report_run_notes.specs.Note.{note_view, text_view};
 ghost use Rattle.test_report_run.specs.Fits.{ExplainedFits, NotesFit, OnlyMemory, SaidFits};
-ghost use Rattle.test_report_run.specs.Note.{note_view, text_view};
 ghost use Rattle.test_report_run.specs.Over.{last_notes};
 ghost use Rattle.test_report_run.specs.Run as spec;
 ghost use Rattle.test_report_run.specs.Run.{run_state};
@@ -12,11 +12,11 @@ ghost use Rattle.test_report_run.specs.RunFits.{LastLineFits, LineFits, SuitesFi
 ghost use Rattle.test_report_run.specs.Suite.{cancelled_by, has_key, joined_by, state_of, with_line};
 
 use crate::error::{RunError, one_more};
-use crate::note::{Disagreement, Note};
 use crate::run::TestRun;
 use crate::suite::Suite;
 use std::alloc::{AllocError, Global};
 use test_report_events::event::{SuiteEnd, SuiteKey};
+use test_report_run_notes::note::{Disagreement, Note};
 
 impl TestRun {
     /// Takes the first line of a suite.

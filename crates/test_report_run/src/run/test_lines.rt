@@ -2,20 +2,20 @@
 
 ghost use Rattle.std.specs.Prelude.{◌≡◌, ◌<◌, ◌+◌, ◌^◌, ◌++◌, ◌||◌, [], IfOk, OnOk, map};
 ghost use Rattle.test_report_events.specs.Event.{TestEnds, test_end_view};
+ghost use Rattle.test_report_run_notes.specs.Note.{note_view};
 ghost use Rattle.test_report_run.specs.Fits.{OnlyMemory};
-ghost use Rattle.test_report_run.specs.Note.{note_view};
 ghost use Rattle.test_report_run.specs.Run as spec;
 ghost use Rattle.test_report_run.specs.Run.{run_state};
 ghost use Rattle.test_report_run.specs.RunFits.{SuitesFit};
 ghost use Rattle.test_report_run.specs.Running.{running_test_view};
 
 use crate::error::{RunError, one_more};
-use crate::note::{Disagreement, Note};
 use crate::run::TestRun;
 use crate::running::RunningTest;
 use crate::suite::OverTest;
 use std::alloc::Global;
 use test_report_events::event::{TestDetails, TestResult};
+use test_report_run_notes::note::{Disagreement, Note};
 
 impl TestRun {
     /// Takes the start of a test. Fails only if memory runs out, or a number of the run does not fit.

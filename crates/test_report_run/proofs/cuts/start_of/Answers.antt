@@ -1,7 +1,7 @@
 -- The longest start of a line that ends between characters.
 use Rattle.std.proofs.Common.{◌∙◌, ap}
 use Rattle.std.specs.List.{slice_range}
-use Rattle.test_report_run.proofs.Boundaries.{floor-is}
+use Rattle.test_report_run_notes.proofs.Boundaries.{floor-is}
 use Rattle.test_report_run.specs.LongestEnd.{cut_to}
 use Rattle.test_report_run.proofs.cuts.start_of.Goals as goal
 

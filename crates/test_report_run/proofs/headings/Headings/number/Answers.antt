@@ -1,10 +1,10 @@
 -- The number of the path of a heading.
 use Rattle.std.proofs.Common.{◌≡◌, ◌∙◌, List, ℕ, Bor, arith, ap, map, option_map, string_bytes, rules}
 use Rattle.std.proofs.lemmas.Result.{on_ok_weaker}
+use Rattle.test_report_run_notes.specs.Note.{text_view}
 use Rattle.test_report_run.proofs.HeadingViews.{paths_of-view, with_heading-view}
 use Rattle.test_report_run.proofs.Views.{entry_view}
 use Rattle.test_report_run.specs.Headings.{numbers_view, with_path}
-use Rattle.test_report_run.specs.Note.{text_view}
 use Rattle.test_report_run.proofs.headings.Headings.number.Goals as goal
 
 pub returns-clause-number : goal.returns-clause-number

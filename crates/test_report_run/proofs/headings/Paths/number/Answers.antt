@@ -1,6 +1,6 @@
 -- The number of a path.
 use Rattle.std.proofs.Common.{◌∙◌, arith, ap, map}
-use Rattle.test_report_run.specs.Note.{text_view}
+use Rattle.test_report_run_notes.specs.Note.{text_view}
 use Rattle.test_report_run.proofs.HeadingViews.{number-view, with_path-view}
 use Rattle.test_report_run.proofs.Views.{entry_view}
 use Rattle.test_report_run.proofs.headings.Paths.number.Goals as goal

@@ -2,9 +2,9 @@
 use Rattle.std.proofs.Common.{◌≡◌, ◌∙◌, ◌<◌, ◌+◌, None, Some, ap, arith, sym}
 use Rattle.std.specs.List.{position}
 use Rattle.std.proofs.lemmas.List.{length-map}
+use Rattle.test_report_run_notes.specs.Note.{text_view}
 use Rattle.test_report_run.proofs.OpenSteps.{as-many, keys-apart, keys-states, long-of, pushed-below, pushed-key, pushed-keyed, pushed-number, pushed-rises}
 use Rattle.test_report_run.specs.Keys.{keys_in, number_at}
-use Rattle.test_report_run.specs.Note.{text_view}
 use Rattle.test_report_run.specs.OpenSuites.{suites_of}
 use Rattle.test_report_run.specs.Suite.{SuiteState, has_key}
 use Rattle.test_report_run.specs.declared.open_suites.OpenSuites.{OpenSuites}

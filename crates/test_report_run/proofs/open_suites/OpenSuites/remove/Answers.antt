@@ -3,10 +3,10 @@ use Rattle.std.proofs.Common.{Box, Global, ◌≡◌, ◌∙◌, ◌<◌, None, 
 use Rattle.std.specs.List.{position, remove}
 use Rattle.std.proofs.lemmas.List.{length-map}
 use Rattle.std.proofs.lemmas.Option.{slice_get-get_or}
+use Rattle.test_report_run_notes.proofs.Places.{map-remove}
+use Rattle.test_report_run_notes.specs.Note.{text_view}
 use Rattle.test_report_run.proofs.OpenSteps.{as-many, key-at, keyed-of, long-of, removed-below, removed-key, removed-keyed, removed-rises, state-at}
-use Rattle.test_report_run.proofs.Places.{map-remove}
 use Rattle.test_report_run.specs.Keys.{keys_in, number_at, numbers_in}
-use Rattle.test_report_run.specs.Note.{text_view}
 use Rattle.test_report_run.specs.OpenSuites.{states_in, suites_of}
 use Rattle.test_report_run.specs.Suite.{SuiteState, has_key, state_of}
 use Rattle.test_report_run.specs.declared.suite.Suite.{Suite}

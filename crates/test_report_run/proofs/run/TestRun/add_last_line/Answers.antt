@@ -2,7 +2,7 @@
 use Rattle.std.proofs.Common.{◌<◌, ◌∙◌, Some, ap, arith, length, refl}
 use Rattle.std.proofs.lemmas.Grind.{common_steps}
 use Rattle.test_report_events.specs.Event.{suite_end_view}
-use Rattle.test_report_run.specs.Note.{text_view}
+use Rattle.test_report_run_notes.specs.Note.{text_view}
 use Rattle.test_report_run.specs.Run.{run_state}
 use Rattle.test_report_run.specs.Suite.{state_of, with_line}
 use Rattle.test_report_run.specs.declared.suite.Suite.{Suite}

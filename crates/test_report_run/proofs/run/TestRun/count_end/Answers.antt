@@ -2,9 +2,9 @@
 use Rattle.std.proofs.Common.{[], ◌<◌, ◌∙◌, Bool, ap, arith, length, refl, subst, sym}
 use Rattle.std.proofs.lemmas.Grind.{common_steps}
 use Rattle.test_report_events.specs.Event.{test_end_view}
+use Rattle.test_report_run_notes.specs.Note.{text_view}
 use Rattle.test_report_run.specs.Ended.{after_end}
 use Rattle.test_report_run.specs.Fits.{SuiteFits}
-use Rattle.test_report_run.specs.Note.{text_view}
 use Rattle.test_report_run.specs.Run.{place_of_number, run_state, running_over}
 use Rattle.test_report_run.specs.Running.{running_test_view}
 use Rattle.test_report_run.specs.Suite.{OverView, state_of}

@@ -1,7 +1,7 @@
 -- A test counts in the suite that it belongs to.
 use Rattle.std.proofs.Common.{◌<◌, ◌∙◌, ap, arith, length, refl}
 use Rattle.std.proofs.lemmas.Grind.{common_steps}
-use Rattle.test_report_run.specs.Note.{text_view}
+use Rattle.test_report_run_notes.specs.Note.{text_view}
 use Rattle.test_report_run.specs.Run.{run_state, suite_place}
 use Rattle.test_report_run.specs.Suite.{state_of, with_start}
 use Rattle.test_report_run.specs.declared.suite.Suite.{Suite}

@@ -2,9 +2,9 @@
 use Rattle.std.proofs.Common.{◌∙◌, ◌++◌, ◌<◌, Bool, List, ℕ, ap, arith, length, map, refl, subst, sym}
 use Rattle.std.proofs.lemmas.Grind.{common_steps}
 use Rattle.test_report_events.specs.Event.{test_end_view}
+use Rattle.test_report_run_notes.specs.Note.{note_view, text_view}
 use Rattle.test_report_run.specs.Ended.{after_stray, stray_notes}
 use Rattle.test_report_run.specs.Fits.{SuiteFits}
-use Rattle.test_report_run.specs.Note.{note_view, text_view}
 use Rattle.test_report_run.specs.Run.{run_state, stray_over, suite_place}
 use Rattle.test_report_run.specs.Suite.{OverView, state_of}
 use Rattle.test_report_run.specs.declared.suite.Suite.{Suite}

@@ -4,8 +4,8 @@ use Rattle.std.proofs.lemmas.Bool.Decides.{nat_tests}
 use Rattle.std.proofs.lemmas.List.{length-map}
 use Rattle.std.proofs.lemmas.Result.{IfOk-equal}
 use Rattle.test_report_events.specs.Event.{suite_end_view}
+use Rattle.test_report_run_notes.specs.Note.{note_view}
 use Rattle.test_report_run.specs.Fits.{ExplainedFits, NotesFit}
-use Rattle.test_report_run.specs.Note.{note_view}
 use Rattle.test_report_run.specs.Run.{Step, run_state, suite_at}
 use Rattle.test_report_run.specs.Suite.{state_of, with_line}
 use Rattle.test_report_run.proofs.RunFits.{taken-out}

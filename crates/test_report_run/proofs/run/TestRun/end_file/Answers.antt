@@ -1,9 +1,9 @@
 -- The steps at the end of a file, one after the other.
 use Rattle.std.proofs.Common.{◌∙◌, List, ap, map, subst, sym, true≢false}
-use Rattle.test_report_run.specs.Note.{note_view}
+use Rattle.test_report_run_notes.specs.Note.{note_view}
+use Rattle.test_report_run_notes.specs.declared.note.Note.{Note}
 use Rattle.test_report_run.specs.Run.{learned, run_state}
 use Rattle.test_report_run.specs.RunFits.{SumsFit}
-use Rattle.test_report_run.specs.declared.note.Note.{Note}
 use Rattle.test_report_run.proofs.EventsFit.{file-command, file-learns, file-suites}
 use Rattle.test_report_run.proofs.Fits.{passed-on}
 use Rattle.test_report_run.proofs.FileEnds.{file-takes, file-tells, known-first}

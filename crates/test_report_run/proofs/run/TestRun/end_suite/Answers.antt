@@ -3,8 +3,8 @@ use Rattle.std.proofs.Common.{◌++◌, ap, map, subst, sym}
 use Rattle.std.proofs.lemmas.List.{length-map}
 use Rattle.std.proofs.lemmas.Result.{IfOk-equal}
 use Rattle.run_events_stats.specs.Counters.{TestCountersFit}
+use Rattle.test_report_run_notes.specs.Note.{note_view}
 use Rattle.test_report_run.specs.Fits.{NotesFit}
-use Rattle.test_report_run.specs.Note.{note_view}
 use Rattle.test_report_run.specs.Over.{explained_of, last_notes, last_state}
 use Rattle.test_report_run.specs.Running.{running_test_view, running_view}
 use Rattle.test_report_run.specs.Suite.{cancelled_by, state_of}

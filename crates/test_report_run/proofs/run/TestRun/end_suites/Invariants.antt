@@ -1,7 +1,7 @@
 -- Where the open suites end early.
 use Rattle.std.proofs.Common.{◌≡◌, map, []}
 use Rattle.std.specs.List.{fold}
-use Rattle.test_report_run.specs.Note.{note_view}
+use Rattle.test_report_run_notes.specs.Note.{note_view}
 use Rattle.test_report_run.specs.Run.{ended_early, run_state, step}
 use Rattle.test_report_run.proofs.Runs.{boxed_state}
 use Rattle.test_report_run.proofs.run.TestRun.end_suites.Given as goal

@@ -2,7 +2,7 @@
 use Rattle.std.proofs.Common.{◌++◌, ap, map, subst, sym}
 use Rattle.std.proofs.lemmas.Result.{IfOk-equal}
 use Rattle.test_report_events.specs.Event.{test_end_view}
-use Rattle.test_report_run.specs.Note.{note_view}
+use Rattle.test_report_run_notes.specs.Note.{note_view}
 use Rattle.test_report_run.specs.Run.{RunState, Step, run_state}
 use Rattle.test_report_run.specs.RunFits.{SuitesFit}
 use Rattle.test_report_run.specs.Running.{place_of_end, running_test_view, tests_of}

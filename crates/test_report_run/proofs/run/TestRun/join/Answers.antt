@@ -1,7 +1,7 @@
 -- A suite of the run changes.
 use Rattle.std.proofs.Common.{◌<◌, ◌∙◌, Some, ap, arith, length, refl, sym, true≢false}
 use Rattle.std.proofs.lemmas.Grind.{common_steps}
-use Rattle.test_report_run.specs.Note.{text_view}
+use Rattle.test_report_run_notes.specs.Note.{text_view}
 use Rattle.test_report_run.specs.Run.{run_state}
 use Rattle.test_report_run.specs.Suite.{joined_by, state_of}
 use Rattle.test_report_run.specs.declared.suite.Suite.{Suite}

@@ -1,6 +1,6 @@
 -- Where notes are counted.
 use Rattle.std.proofs.Common.{◌≡◌, map, take}
-use Rattle.test_report_run.specs.Note.{note_view}
+use Rattle.test_report_run_notes.specs.Note.{note_view}
 use Rattle.test_report_run.specs.Run.{learned, run_state}
 use Rattle.test_report_run.proofs.run.TestRun.learn.Given as goal
 

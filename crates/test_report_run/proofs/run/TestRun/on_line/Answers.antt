@@ -1,5 +1,5 @@
 use Rattle.std.proofs.Common.{ap, map}
-use Rattle.test_report_run.specs.Note.{note_view}
+use Rattle.test_report_run_notes.specs.Note.{note_view}
 use Rattle.test_report_run.specs.Run.{run_state}
 use Rattle.test_report_run.proofs.EventsFit.{second-fits, third-fits}
 use Rattle.test_report_run.proofs.Fits.{passed-on}

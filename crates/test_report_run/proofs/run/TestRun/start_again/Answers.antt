@@ -2,8 +2,8 @@
 use Rattle.std.proofs.Common.{[], ◌≡◌, ◌∙◌, None, Some, ap, arith, map, refl, subst, sym, true}
 use Rattle.std.proofs.lemmas.List.Quantifiers.{position-Some}
 use Rattle.std.proofs.lemmas.Result.{on_ok_weaker}
+use Rattle.test_report_run_notes.specs.Note.{note_view, text_view}
 use Rattle.test_report_run.specs.Fits.{NotesFit}
-use Rattle.test_report_run.specs.Note.{note_view, text_view}
 use Rattle.test_report_run.specs.Run.{RunState, Step, ended_early, open_suite, run_state, step, suite_at}
 use Rattle.test_report_run.specs.RunFits.{SuitesFit}
 use Rattle.test_report_run.specs.Suite.{SuiteState, has_key, state_of}

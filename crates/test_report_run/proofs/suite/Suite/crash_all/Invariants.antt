@@ -1,6 +1,6 @@
 -- Where the running tests are counted as crashed.
 use Rattle.std.proofs.Common.{◌≡◌, ◌+◌, ◌++◌, length, map}
-use Rattle.test_report_run.specs.Note.{HasCrashed, crash_view, note_view}
+use Rattle.test_report_run_notes.specs.Note.{HasCrashed, crash_view, note_view}
 use Rattle.test_report_run.specs.Over.{failed_notes, with_failed}
 use Rattle.test_report_run.specs.Running.{running_view}
 use Rattle.test_report_run.specs.Suite.{state_of}

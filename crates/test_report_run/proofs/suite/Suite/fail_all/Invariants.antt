@@ -1,6 +1,6 @@
 -- Where tests without end are counted as failed.
 use Rattle.std.proofs.Common.{◌≡◌, ◌++◌, map}
-use Rattle.test_report_run.specs.Note.{HasNoEnd, note_view}
+use Rattle.test_report_run_notes.specs.Note.{HasNoEnd, note_view}
 use Rattle.test_report_run.specs.Over.{failed_notes, with_failed}
 use Rattle.test_report_run.specs.Running.{running_view}
 use Rattle.test_report_run.specs.Suite.{state_of}

@@ -1,6 +1,6 @@
 -- Where the flaky tests are counted.
 use Rattle.std.proofs.Common.{◌≡◌, ◌++◌, [], map}
-use Rattle.test_report_run.specs.Note.{note_view}
+use Rattle.test_report_run_notes.specs.Note.{note_view}
 use Rattle.test_report_run.specs.Over.{flaky_note, with_all_flaky}
 use Rattle.test_report_run.specs.Suite.{flaky_view, state_of}
 use Rattle.test_report_run.proofs.suite.Suite.release_flaky.Given as goal

@@ -1,6 +1,6 @@
 -- Where tests without end are skipped.
 use Rattle.std.proofs.Common.{◌≡◌, ◌++◌, map}
-use Rattle.test_report_run.specs.Note.{note_view}
+use Rattle.test_report_run_notes.specs.Note.{note_view}
 use Rattle.test_report_run.specs.Over.{skipped_note}
 use Rattle.test_report_run.specs.Running.{running_view}
 use Rattle.test_report_run.specs.Suite.{state_of}

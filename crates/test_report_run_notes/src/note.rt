@@ -1,7 +1,7 @@
 //! The notes that the lines of a run make known, and the end of a run.
 
 ghost use Rattle.std.specs.Prelude.{◌≡◌};
-ghost use Rattle.test_report_run.specs.Suite.{failed_of};
+ghost use Rattle.test_report_run_notes.specs.Note.{failed_of};
 
 use run_events_results::results::CancelReason;
 use run_events_stats::outcome::RunOutcome;

@@ -2,7 +2,7 @@
 use Rattle.std.proofs.Common.{◌≡◌, ◌≤◌, ◌<◌, ℕ, zero, suc, List, true, false, refl, arith, if◌then◌else◌}
 use Rattle.std.specs.Str.{IsCharBoundary}
 use Rattle.std.proofs.lemmas.Bool.Decides.{nat_tests}
-use Rattle.test_report_run.specs.LongestEnd.{floor_of, is_boundary}
+use Rattle.test_report_run_notes.specs.Texts.{floor_of, is_boundary}
 
 -- the test says what it is called
 boundary-test : (line : List ℕ) (i : ℕ) → IsCharBoundary line i → is_boundary line i ≡ true

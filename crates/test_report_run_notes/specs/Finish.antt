@@ -7,9 +7,9 @@ use Rattle.run_events_results.specs.declared.results.FailureDescription.TheVaria
 use Rattle.run_events_settings.specs.declared.config.FlakyResult.{FlakyResult}
 use Rattle.run_events_settings.specs.declared.config.FlakyResult.TheVariants as flaky
 use Rattle.run_events_settings.specs.declared.config.SlowTimeoutResult.TheVariants as slow
-use Rattle.test_report_run.specs.Note.{KindView, HasTimedOut, IsFlaky}
-use Rattle.test_report_run.specs.declared.counted.Finish.{Finish}
-use Rattle.test_report_run.specs.declared.counted.Finish.TheVariants.{Passed, FlakyFailed, Failed, TimedOut}
+use Rattle.test_report_run_notes.specs.Note.{KindView, HasTimedOut, IsFlaky}
+use Rattle.test_report_run_notes.specs.declared.finish.Finish.{Finish}
+use Rattle.test_report_run_notes.specs.declared.finish.Finish.TheVariants.{Passed, FlakyFailed, Failed, TimedOut}
 
 -- how a test finished that failed in this way
 abbrev pub finish_for : KindView → Finish

@@ -1,26 +1,26 @@
 -- What becomes known of a run.
-use Rattle.std.specs.Prelude.{◌==◌, ℕ, List, Bool, false, true, map, None, Option, Some, option_map, String, string_bytes}
+use Rattle.std.specs.Prelude.{◌==◌, ◌-◌, ℕ, List, Bool, false, true, map, None, Option, Some, option_map, String, string_bytes}
 use Rattle.std.specs.declared.alloc.Global.{Global}
 use Rattle.run_events_results.specs.declared.results.CancelReason.{CancelReason}
 use Rattle.run_events_stats.specs.declared.stats.RunStats.{RunStats}
 use Rattle.test_report_events.specs.Event.{BySignal, CommandView, NotStarted, WithStatus}
 use Rattle.test_report_events.specs.declared.event.TestResult.{TestResult}
-use Rattle.test_report_run.specs.declared.note.CargoReport.{CargoReport}
-use Rattle.test_report_run.specs.declared.note.CommandEnd.{CommandEnd}
-use Rattle.test_report_run.specs.declared.note.CommandEnd.TheVariants as command
-use Rattle.test_report_run.specs.declared.note.Crash.{Crash}
-use Rattle.test_report_run.specs.declared.note.Disagreement.{Disagreement}
-use Rattle.test_report_run.specs.declared.note.Disagreement.TheVariants as disagreement
-use Rattle.test_report_run.specs.declared.note.Failure.{Failure}
-use Rattle.test_report_run.specs.declared.note.FailureKind.{FailureKind}
-use Rattle.test_report_run.specs.declared.note.FailureKind.TheVariants as kind
-use Rattle.test_report_run.specs.declared.note.Note.{Note}
-use Rattle.test_report_run.specs.declared.note.Note.TheVariants as note
-use Rattle.test_report_run.specs.declared.note.SaidNumbers.{SaidNumbers}
-use Rattle.test_report_run.specs.declared.note.SuiteNote.{SuiteNote}
-use Rattle.test_report_run.specs.declared.note.TestNote.{TestNote}
-use Rattle.test_report_run.specs.declared.note.TestOutcome.{TestOutcome}
-use Rattle.test_report_run.specs.declared.note.TestOutcome.TheVariants as outcome
+use Rattle.test_report_run_notes.specs.declared.note.CargoReport.{CargoReport}
+use Rattle.test_report_run_notes.specs.declared.note.CommandEnd.{CommandEnd}
+use Rattle.test_report_run_notes.specs.declared.note.CommandEnd.TheVariants as command
+use Rattle.test_report_run_notes.specs.declared.note.Crash.{Crash}
+use Rattle.test_report_run_notes.specs.declared.note.Disagreement.{Disagreement}
+use Rattle.test_report_run_notes.specs.declared.note.Disagreement.TheVariants as disagreement
+use Rattle.test_report_run_notes.specs.declared.note.Failure.{Failure}
+use Rattle.test_report_run_notes.specs.declared.note.FailureKind.{FailureKind}
+use Rattle.test_report_run_notes.specs.declared.note.FailureKind.TheVariants as kind
+use Rattle.test_report_run_notes.specs.declared.note.Note.{Note}
+use Rattle.test_report_run_notes.specs.declared.note.Note.TheVariants as note
+use Rattle.test_report_run_notes.specs.declared.note.SaidNumbers.{SaidNumbers}
+use Rattle.test_report_run_notes.specs.declared.note.SuiteNote.{SuiteNote}
+use Rattle.test_report_run_notes.specs.declared.note.TestNote.{TestNote}
+use Rattle.test_report_run_notes.specs.declared.note.TestOutcome.{TestOutcome}
+use Rattle.test_report_run_notes.specs.declared.note.TestOutcome.TheVariants as outcome
 
 -- How a test crashed: how many tests ran, and whether its suite has a key. The line in which cargo names the cause, the text of the prints, and the last
 -- three of these that are not blank may say why. The last field says whether another test of the suite crashed before it.
@@ -220,3 +220,7 @@ is_new_disagreement (CargoSays report) = false
 is_new_disagreement (IsDamaged text) = true
 is_new_disagreement HasNoEvent = false
 is_new_disagreement (CommandFails end) = true
+
+-- how many tests failed
+abbrev pub failed_of : RunStats → ℕ
+failed_of stats = stats.finished_count - stats.passed

@@ -8,7 +8,7 @@ use Rattle.std.specs.declared.cmp.Ordering.TheVariants.{Equal, Greater, Less}
 use Rattle.std.proofs.lemmas.Bool.{cases_eq, cases_lt, le-ltb, lt-ltb}
 use Rattle.std.proofs.lemmas.Bool.Decides.{nat_tests}
 use Rattle.std.proofs.lemmas.List.Elements.{All-cons, All-head, All-tail, All-weaker}
-use Rattle.test_report_run.specs.InOrder.{IsPlaced, place_cmp}
+use Rattle.test_report_run_notes.specs.InOrder.{IsPlaced, place_cmp}
 
 -- values that are kept in the order of a number of their own
 module _ {X : Type 0} (own-number : X → ℕ) where

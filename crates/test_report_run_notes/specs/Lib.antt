@@ -1,0 +1,4 @@
+pub mod Finish
+pub mod InOrder
+pub mod Note
+pub mod Texts
