@@ -4,15 +4,15 @@ use Rattle.std.specs.Prelude.{◌==◌, Bool, false, slice_index, true}
 use Rattle.test_report_events.specs.Event.{CommandOver, CommandStarts, CommandView, EventView, SuiteNames}
 use Rattle.test_report_events.specs.Laws.{OneReadingOfLine}
 use Rattle.test_report_events.specs.Line.{LineSays}
+use Rattle.test_report_run_notes.specs.Note.{NoteView, note_view}
+use Rattle.test_report_run_notes.specs.declared.note.Note.{Note}
+use Rattle.test_report_run_notes.specs.declared.note.RunEnd.{RunEnd}
 use Rattle.test_report_forms.specs.Entry.{EntryView}
 use Rattle.test_report_forms.specs.Laws.{OneEntry}
-use Rattle.test_report_run.specs.Note.{NoteView, note_view}
 use Rattle.test_report_run.specs.Run as spec
 use Rattle.test_report_run.specs.Run.{RunState, after_file, file_notes, run_state}
-use Rattle.test_report_run.specs.declared.note.Note.{Note}
-use Rattle.test_report_run.specs.declared.note.RunEnd.{RunEnd}
 use Rattle.test_report_run.specs.declared.run.TestRun.{TestRun}
-use Rattle.test_report_engine.specs.Fits.{InputFits, LineFits}
+use Rattle.test_report_engine.specs.Fits.{InputFits, LineEventsFit}
 use Rattle.test_report_engine.specs.Lines.{IsOneLine, events_after, with_feed}
 use Rattle.test_report_engine.specs.Reading.{AppendsLinesStart, LeadsTo, ReadsInput, RestFits, ReadsLine, ReadsStart, TakesLine, WritesNotes}
 use Rattle.test_report_engine.specs.Report.{after_end, after_line, end_notes, line_notes, notes_of_input, parts, run_after, run_after_input, run_of}
@@ -131,7 +131,7 @@ input-line-start command line old bytes rest b w one starts events are =
 
 -- the numbers fit after the events of the first line
 pub first-fits : (command : Option CommandView) {F : Type 0} (old : Report F) (bytes rest : List ℕ) → IsOneLine bytes
-    → RestFits command old (with_feed bytes ++ rest) → (es : List EventView) × LineSays bytes es × LineFits (run_of old.run) es
+    → RestFits command old (with_feed bytes ++ rest) → (es : List EventView) × LineSays bytes es × LineEventsFit (run_of old.run) es
 first-fits command old bytes rest one fits =
     let first = events-cut bytes rest fits.0 one fits.1 in
     let all : InputFits (run_of old.run) (first.own ∷ (first.others ++ events_after command)) =
@@ -305,7 +305,7 @@ module _ {F : Type 0} (line : F → List EntryView → List ℕ) (last : F → L
       → front ≡ take at rest → back ≡ drop at rest → at < length rest
       → ((k : ℕ) → k < at → ¬ ((slice_index rest k == 10) ≡ true)) → (slice_index rest at == 10) ≡ true
       → line_then ≡ y ++ front → RestFits command old (x ++ (bytes ++ after))
-      → (es : List EventView) × LineSays line_then es × LineFits (run_of mid.run) es
+      → (es : List EventView) × LineSays line_then es × LineEventsFit (run_of mid.run) es
   bytes-line-fits command old mid x y line_then bytes rest front back after b m at takes one is_front is_back within before feed is fits =
       let line_one : IsOneLine line_then = subst IsOneLine (sym is) (joined y front one (feedless-front rest front at is_front within before)) in
       let then : List ℕ = take (length back - 1) (drop 1 back) in

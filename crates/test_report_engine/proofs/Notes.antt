@@ -7,14 +7,14 @@ use Rattle.std.specs.List.{AllZip, flat_map}
 use Rattle.std.specs.Prelude.{Err, Ok, OnErr}
 use Rattle.std.specs.declared.result.Result.{Result}
 use Rattle.program_io.specs.Transfer.{AppendsStart}
+use Rattle.test_report_run_notes.specs.Note.{NoteView, note_view}
+use Rattle.test_report_run_notes.specs.declared.note.Note.{Note}
+use Rattle.test_report_run_notes.specs.declared.note.RunEnd.{RunEnd}
 use Rattle.test_report_forms.specs.Entry.{EntryView, IsEntryOf}
 use Rattle.test_report_forms.specs.Files.{FilesKnow}
 use Rattle.test_report_forms.specs.Form.{lines}
 use Rattle.test_report_forms.specs.Laws.{OneEntry}
 use Rattle.test_report_forms.specs.declared.files.FileForms.{FileForms}
-use Rattle.test_report_run.specs.Note.{NoteView, note_view}
-use Rattle.test_report_run.specs.declared.note.Note.{Note}
-use Rattle.test_report_run.specs.declared.note.RunEnd.{RunEnd}
 use Rattle.test_report_run.specs.declared.run.TestRun.{TestRun}
 use Rattle.test_report_engine.specs.Reading.{AppendsLinesStart, FilesTake, FormTakes, TakesNotes, WritesNotes}
 use Rattle.test_report_engine.specs.Report.{all_entries}

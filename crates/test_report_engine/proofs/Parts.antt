@@ -3,11 +3,11 @@ use Rattle.std.proofs.Common.{◌≡◌, ◌∙◌, ◌+◌, ◌<◌, ◌≤◌,
 use Rattle.std.proofs.lemmas.Grind.{common_steps}
 use Rattle.std.specs.List.{onto_first, position, position_or_len}
 use Rattle.std.specs.Prelude.{Bool, false, true}
+use Rattle.test_report_run_notes.specs.Note.{NoteView, note_view}
+use Rattle.test_report_run_notes.specs.declared.note.Note.{Note}
+use Rattle.test_report_run_notes.specs.declared.note.RunEnd.{RunEnd}
 use Rattle.test_report_forms.specs.Entry.{EntryView}
 use Rattle.test_report_forms.specs.Laws.{OneEntry}
-use Rattle.test_report_run.specs.Note.{NoteView, note_view}
-use Rattle.test_report_run.specs.declared.note.Note.{Note}
-use Rattle.test_report_run.specs.declared.note.RunEnd.{RunEnd}
 use Rattle.test_report_engine.specs.Reading.{AppendsLinesStart, WritesNotes}
 use Rattle.test_report_engine.specs.Report.{ends_part, parts}
 use Rattle.test_report_engine.specs.declared.report.Report.{Report}

@@ -11,9 +11,9 @@ use Rattle.program_io.specs.Transfer.{AppendsStart}
 use Rattle.test_report_events.specs.Event.{CommandView, EventView}
 use Rattle.test_report_events.specs.Laws.{OneReadingOfLine}
 use Rattle.test_report_events.specs.Line.{LineSays, RestOf}
+use Rattle.test_report_run_notes.specs.declared.note.RunEnd.{RunEnd}
 use Rattle.test_report_forms.specs.Entry.{EntryView}
 use Rattle.test_report_forms.specs.Laws.{OneEntry}
-use Rattle.test_report_run.specs.declared.note.RunEnd.{RunEnd}
 use Rattle.test_report_engine.specs.Lines.{AreLines, IsOneLine, not_empty, with_feed}
 use Rattle.test_report_engine.specs.Others.{Gets, GetsAnyStart, GetsBytes, GetsInput, GetsOthers, GetsPiece, GetsStart, IsOther, SinkState, other_text}
 use Rattle.test_report_engine.specs.Reading.{AppendsLinesStart, ReadsLine, ReadsStart}

@@ -8,23 +8,28 @@ use Rattle.std.specs.List.{AllZip, flat_map}
 use Rattle.program_io.specs.Transfer.{AppendsStart}
 use Rattle.test_report_events.specs.Event.{CommandStarts, CommandView, EventView, SuiteNames}
 use Rattle.test_report_events.specs.Laws.{OneReadingOfLine}
+use Rattle.test_report_run_notes.specs.Note.{NoteView}
+use Rattle.test_report_run_notes.specs.declared.note.RunEnd.{RunEnd}
 use Rattle.test_report_forms.specs.Entry.{EntryView, IsEntryOf}
 use Rattle.test_report_forms.specs.Files.{FilesKnow, FilesSay}
 use Rattle.test_report_forms.specs.Laws.{OneEntry}
 use Rattle.test_report_forms.specs.declared.files.FileForms.{FileForms}
 use Rattle.test_report_forms.specs.declared.files.FileTexts.{FileTexts}
-use Rattle.test_report_run.specs.Note.{NoteView}
 use Rattle.test_report_run.specs.Run.{RunState, after, end_of, run_start, run_state}
-use Rattle.test_report_run.specs.declared.note.RunEnd.{RunEnd}
 use Rattle.test_report_run.specs.declared.run.TestRun.{TestRun}
 use Rattle.test_report_engine.specs.Lines.{AreEventsOf, InputView, events_after, file, output}
 use Rattle.test_report_engine.specs.Reading.{AnyRestFits, AppendsLinesStart, BreaksOff, BreaksOffEnd, FilesHaveRead, Finishes, HasRead, ReadsAnyStart, ReadsInput, ReadsOneMore, ReadsPiece, ReadsSome, ReadsStart, RestFits, StartsCommand, WritesNotes, piece_size}
-use Rattle.test_report_engine.specs.Report.{AreEntriesOf, AreTexts, IsReport, all_entries, notes_of_input, notes_of_inputs, run_after_input, run_after_inputs, run_of}
+use Rattle.test_report_engine.specs.Report.{AreEntriesOf, AreTexts, IsReport, after_line, all_entries, notes_of_input, notes_of_inputs, run_after_input, run_after_inputs, run_of}
 use Rattle.test_report_engine.specs.declared.report.Report.{Report}
 use Rattle.test_report_engine.proofs.Inputs.{input-none, leads-then, start-notes, start-runs}
 use Rattle.test_report_engine.proofs.Lines.{one-input}
 use Rattle.test_report_engine.proofs.Lists.{zip-append, zip-one, zip-split}
 use Rattle.test_report_engine.proofs.Notes.{one-lists, starts-empty, writes-empty, writes-from}
+
+command-run : (old run : TestRun) (names : SuiteNames) → run_state run ≡ after (run_state old) (CommandStarts names)
+    → run_of run ≡ after_line (run_of old) (CommandStarts names ∷ [])
+unfolding run_of after_line
+command-run old run names is = is
 
 -- the run after inputs and one more, and what they make known
 inputs-run : (r : RunState) (es : List (List (List EventView))) (e : List (List EventView))
@@ -415,6 +420,7 @@ module _ (one-reading-of-line : OneReadingOfLine) (one_entry : OneEntry) {F : Ty
     files = λ bytes end then b w read. files-more line last Knows old then (output names bytes end) b w
         (output-taken line last Knows old then run names bytes end b w none is read);
     breaks_off = λ bytes end b w starts. output-breaks old run names bytes end b w none is starts;
+    run_is = command-run old.run run names is;
   }
 
   -- pieces, and a beginning of what comes of the rest

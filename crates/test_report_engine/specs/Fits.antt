@@ -8,19 +8,19 @@ use Rattle.test_report_engine.specs.Report.{after_line}
 use Rattle.test_report_engine.specs.declared.fault.Fault.{Fault}
 use Rattle.test_report_engine.specs.declared.fault.Fault.TheVariants.{CounterFull}
 
--- the fault is not that a number does not fit
+-- if there is a fault, it is not that a number does not fit
 abbrev pub NotFull : {T : Type 0} → Result T Fault → Type 0
 NotFull r = IfErr r (λ fault. fault ≢ CounterFull)
 
 -- the numbers of a run fit after each event of a line. It and the next one do not unfold by themselves, since they are long
-unfoldable pub LineFits : RunState → List EventView → Type 0
-LineFits run line = EachFits run line
+unfoldable pub LineEventsFit : RunState → List EventView → Type 0
+LineEventsFit run line = EachFits run line
 
 -- they fit after the end of an input
-unfoldable pub EndFits : RunState → Type 0
-EndFits run = RunFits (after_file run)
+unfoldable pub InputEndFits : RunState → Type 0
+InputEndFits run = RunFits (after_file run)
 
 -- they fit after each event of the lines of an input, and after its end
 abbrev pub InputFits : RunState → List (List EventView) → Type 0
-InputFits run [] = EndFits run
-InputFits run (line ∷ lines) = LineFits run line × InputFits (after_line run line) lines
+InputFits run [] = InputEndFits run
+InputFits run (line ∷ lines) = LineEventsFit run line × InputFits (after_line run line) lines

@@ -3,14 +3,14 @@ use Rattle.std.specs.Prelude.{◌≡◌, ◌<◌, ◌≤◌, ℕ, List, [], ◌�
 use Rattle.std.specs.Io.KnownBytes.{Appends, Consumes}
 use Rattle.std.specs.List.{AllZip, flat_map}
 use Rattle.program_io.specs.Transfer.{AppendsStart}
-use Rattle.test_report_events.specs.Event.{CommandView, EventView, SuiteNames}
+use Rattle.test_report_events.specs.Event.{CommandStarts, CommandView, EventView, SuiteNames}
 use Rattle.test_report_events.specs.Line.{LineSays}
+use Rattle.test_report_run_notes.specs.Note.{NoteView}
+use Rattle.test_report_run_notes.specs.declared.note.RunEnd.{RunEnd}
 use Rattle.test_report_forms.specs.Entry.{EntryView, IsEntryOf}
 use Rattle.test_report_forms.specs.Files.{FilesKnow, FilesSay}
 use Rattle.test_report_forms.specs.declared.files.FileForms.{FileForms}
 use Rattle.test_report_forms.specs.declared.files.FileTexts.{FileTexts}
-use Rattle.test_report_run.specs.Note.{NoteView}
-use Rattle.test_report_run.specs.declared.note.RunEnd.{RunEnd}
 use Rattle.test_report_run.specs.declared.run.TestRun.{TestRun}
 use Rattle.test_report_engine.specs.Fits.{InputFits}
 use Rattle.test_report_engine.specs.Lines.{AreLineEvents, InputView, events_after, output}
@@ -58,12 +58,12 @@ abbrev pub ReadsAnyStart : {F : Type 0} → (F → List EntryView → List ℕ) 
 ReadsAnyStart line report begun rest before after =
     (command : Option CommandView) → (rest ≡ [] → command ≡ None) → ReadsStart command line report (begun ++ rest) before after
 
--- the numbers of a run fit while a report reads this rest of an input. If it is the output of a command, the command ends so
+-- the numbers of a run fit after each event of this rest of an input, and after its end. If the input is the output of a command, the command ends so
 abbrev pub RestFits : Option CommandView → {F : Type 0} → Report F → List ℕ → Type 0
 RestFits command report rest =
     (events : List (List EventView)) × AreLineEvents rest events × InputFits (run_of report.run) (events ++ events_after command)
 
--- the same, however the command will end while bytes are left; after the last one there is none
+-- the same, for some end of the command, or for none. If no bytes are left, there is no command
 abbrev pub AnyRestFits : {F : Type 0} → Report F → List ℕ → List ℕ → Type 0
 AnyRestFits report begun rest =
     (command : Option CommandView) × (rest ≡ [] → command ≡ None) × RestFits command report (begun ++ rest)
@@ -118,8 +118,9 @@ module _ {F : Type 0} (line : F → List EntryView → List ℕ) (last : F → L
     pub run_is : run_of new.run ≡ run_after_input (run_of old.run) (events ++ events_after command)
     pub writes : WritesNotes old new (notes_of_input (run_of old.run) (events ++ events_after command)) before after
 
-  -- Some bytes of an input lead from one state to another: what comes of the rest there comes of these bytes and the rest here, and if the numbers fit
-  -- here they fit there. The bytes of a line that has begun come before them.
+  -- Some bytes of an input lead from an old state to a new one: what comes of the rest in the new state comes of these bytes and the rest in the old
+  -- one. If the numbers fit for these bytes and the rest in the old state, they fit for the rest in the new one. The bytes of a line that has begun come
+  -- before them.
   pub record LeadsTo (old new : Report F) (begun begun_then bytes : List ℕ) (before after : Option (List ℕ)) : Type 0 where
     pub reads : (command : Option CommandView) (rest : List ℕ) (end : Report F) (written : Option (List ℕ))
         → ReadsInput command new end (begun_then ++ rest) after written → ReadsInput command old end (begun ++ (bytes ++ rest)) before written
@@ -145,8 +146,8 @@ module _ {F : Type 0} (line : F → List EntryView → List ℕ) (last : F → L
       (slow : ℕ) (form : F) (inputs : List InputView) (written more : List ℕ) → HasRead slow form old inputs written
       → AreLinesOf slow (line form) (inputs ++ input ∷ []) (written ++ more) → AppendsStart before after more
 
-  -- a report is ready for the output of a command whose suites have these names: what it reads of it up to the end of the command is then one more
-  -- input
+  -- A report is ready for the output of a command whose suites have these names: what it reads of it up to the end of the command is then one more
+  -- input. Its run has taken the start of the command.
   pub record StartsCommand (names : SuiteNames) (old new : Report F) : Type 0 where
     pub reads : (bytes : List ℕ) (end : CommandView) (last : Report F) (before after : Option (List ℕ))
         → ReadsInput (Some end) new last bytes before after → ReadsOneMore old last (output names bytes end) before after
@@ -156,6 +157,7 @@ module _ {F : Type 0} (line : F → List EntryView → List ℕ) (last : F → L
         → FilesHaveRead slow files last (inputs ++ output names bytes end ∷ [])
     pub breaks_off : (bytes : List ℕ) (end : CommandView) (before after : Option (List ℕ))
         → ReadsStart (Some end) line new bytes before after → BreaksOff old (output names bytes end) before after
+    pub run_is : run_of new.run ≡ after_line (run_of old.run) (CommandStarts names ∷ [])
 
   -- the end of the report was appended, and this is the end of the run
   abbrev pub Finishes : Report F → RunEnd → Option (List ℕ) → Option (List ℕ) → Type 0

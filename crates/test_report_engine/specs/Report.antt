@@ -2,14 +2,14 @@
 use Rattle.std.specs.Prelude.{◌≡◌, ℕ, Bool, false, true, List, [], ◌∷◌, ◌++◌, if◌then◌else◌}
 use Rattle.std.specs.List.{AllZip, flat_map, fold, onto_first}
 use Rattle.test_report_events.specs.Event.{EventView}
+use Rattle.test_report_run_notes.specs.Note.{CargoSays, CommandFails, DisagreementView, Disagrees, EndsEarly, FlakyEnds, HasNoEvent, IsDamaged, IsNotRun, NoteView, SaysOther, StartsOutside, StrayEnds, StraySuiteEnds, SuiteIs, TestIs}
+use Rattle.test_report_run_notes.specs.declared.note.RunEnd.{RunEnd}
 use Rattle.test_report_forms.specs.Entry.{EntryView, IsEntryOf}
 use Rattle.test_report_forms.specs.Files.{FilesSay}
 use Rattle.test_report_forms.specs.declared.files.FileForms.{FileForms}
 use Rattle.test_report_forms.specs.declared.files.FileTexts.{FileTexts}
-use Rattle.test_report_run.specs.Note.{CargoSays, CommandFails, DisagreementView, Disagrees, EndsEarly, FlakyEnds, HasNoEvent, IsDamaged, IsNotRun, NoteView, SaysOther, StartsOutside, StrayEnds, StraySuiteEnds, SuiteIs, TestIs}
 use Rattle.test_report_run.specs.Run as spec
 use Rattle.test_report_run.specs.Run.{RunState, after_file, end_of, file_notes, run_start, run_state}
-use Rattle.test_report_run.specs.declared.note.RunEnd.{RunEnd}
 use Rattle.test_report_run.specs.declared.run.TestRun.{TestRun}
 use Rattle.test_report_engine.specs.Lines.{AreEventsOf, InputView}
 

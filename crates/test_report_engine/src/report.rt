@@ -4,13 +4,13 @@ ghost use Rattle.std.specs.Prelude.{◌-◌, ◌^◌, ◌<◌, ◌≡◌, ◌≢
 ghost use Rattle.std.specs.Io.KnownBytes.{IsAtEnd};
 ghost use Rattle.test_report_events.specs.Event.{Cancels, CommandView, EventView};
 ghost use Rattle.test_report_events.specs.Line.{LineSays};
+ghost use Rattle.test_report_run_notes.specs.Note.{command_view, note_view};
 ghost use Rattle.test_report_forms.specs.Files.{FilesKnow};
 ghost use Rattle.test_report_forms.specs.Form.{lines};
 ghost use Rattle.test_report_forms.specs.declared.files.FileForms.{FileForms};
-ghost use Rattle.test_report_run.specs.Note.{command_view, note_view};
 ghost use Rattle.test_report_run.specs.Run.{after, run_state};
 ghost use Rattle.test_report_run.specs.SuiteNames.{names_of};
-ghost use Rattle.test_report_engine.specs.Fits.{LineFits, NotFull};
+ghost use Rattle.test_report_engine.specs.Fits.{LineEventsFit, NotFull};
 ghost use Rattle.test_report_engine.specs.Lines.{InputView, IsOneLine, file};
 ghost use Rattle.test_report_engine.specs.Others.{GetsOthers, sink_state};
 ghost use Rattle.test_report_engine.specs.Report.{AreTexts, line_notes, parts, run_of};
@@ -29,9 +29,9 @@ use std::alloc::{AllocError, Global};
 use test_report_forms::entry::Entry;
 use test_report_forms::files::{FileForms, FileTexts};
 use test_report_forms::form::Form;
-use test_report_run::note::{CommandEnd, Note, RunEnd};
 use test_report_run::run::TestRun;
 use test_report_run::suite_names::SuiteNames;
+use test_report_run_notes::note::{CommandEnd, Note, RunEnd};
 
 /// The number of bytes that are read at once.
 const CHUNK: usize = 16_384;
@@ -83,8 +83,8 @@ impl<F: Form + Drop> Report<F> {
     ///
     /// - [`Fault::Read`] if and only if the source fails, and [`Fault::Write`] if and only if the sink
     ///   fails.
-    /// - [`Fault::CounterFull`] only if a number of the run does not fit its counter, or the file has 2^64 - 1 bytes or
-    ///   more.
+    /// - [`Fault::CounterFull`] only if [`TestRun`] has this error for a line of the file or for its end, or the file has
+    ///   2^64 - 1 bytes or more.
     /// - [`Fault::OutOfMemory`] if there is not enough memory.
     pub fn read_file<R: Source, W: Sink, O: Sink>(
         &mut self,
@@ -145,7 +145,8 @@ impl<F: Form + Drop> Report<F> {
     ///
     /// - [`Fault::Read`] if and only if the source fails, and [`Fault::Write`] if and only if the sink
     ///   fails.
-    /// - [`Fault::CounterFull`] only if a number of the run does not fit its counter.
+    /// - [`Fault::CounterFull`] only if [`TestRun`] has this error for a line that ends in these bytes or, if there are
+    ///   none, for the last line or the end of the file.
     /// - [`Fault::OutOfMemory`] if there is not enough memory.
     pub fn read_piece<R: Source, W: Sink, O: Sink>(
         &mut self,
@@ -206,7 +207,6 @@ impl<F: Form + Drop> Report<F> {
     /// Notes that the output of a command is read next. Call it before the first piece of the output, and
     /// `end_command` after the last one. If `names` has a name for the path in a heading, the suites after the
     /// heading have this name.
-    #[tactic(auto, using(crate::proofs::Reports::starts_command))]
     pub fn start_command(&mut self, names: SuiteNames)
         ensures starts { reading.StartsCommand (lines F.line F.line_end) F.last F.Knows (names_of names)
             self.old self.new }
@@ -237,7 +237,7 @@ impl<F: Form + Drop> Report<F> {
     /// command would have added to the report.
     ///
     /// - [`Fault::Write`] if and only if the sink fails.
-    /// - [`Fault::CounterFull`] only if a number of the run does not fit its counter.
+    /// - [`Fault::CounterFull`] only if [`TestRun`] has this error for the last line or for the end of the command.
     /// - [`Fault::OutOfMemory`] if there is not enough memory.
     pub fn end_command<W: Sink, O: Sink>(
         &mut self,
@@ -379,7 +379,7 @@ impl<F: Form + Drop> Report<F> {
             ≡ (sink_state O.failed O.flushed O.written others.old)) × (W.written sink.new ≡ W.written sink.old))
             ⊎ GetsOthers (bytes.now ∷ []) (sink_state O.failed O.flushed O.written others.old)
             (sink_state O.failed O.flushed O.written others.new)) }
-        ensures room { (events : List EventView) → LineSays bytes.now events → LineFits (run_of self.old.run) events
+        ensures room { (events : List EventView) → LineSays bytes.now events → LineEventsFit (run_of self.old.run) events
             → NotFull result }
     {
         test_report_events::laws::one_reading_of_line();

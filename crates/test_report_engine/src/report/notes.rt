@@ -4,9 +4,9 @@ ghost use Rattle.std.specs.Prelude.{◌+◌, ◌<◌, ◌≤◌, ◌≡◌, ◌�
 ghost use Rattle.std.specs.List.{position};
 ghost use Rattle.test_report_events.specs.Event.{EventView};
 ghost use Rattle.test_report_events.specs.Line.{LineSays};
+ghost use Rattle.test_report_run_notes.specs.Note.{command_view, disagreement_view, note_view};
 ghost use Rattle.test_report_run.specs.Fits.{OnlyMemory};
-ghost use Rattle.test_report_run.specs.Note.{command_view, disagreement_view, note_view};
-ghost use Rattle.test_report_engine.specs.Fits.{InputFits, LineFits};
+ghost use Rattle.test_report_engine.specs.Fits.{InputFits, LineEventsFit};
 ghost use Rattle.test_report_engine.specs.Lines.{events_after};
 ghost use Rattle.test_report_engine.specs.Others.{GetsOthers, sink_state};
 ghost use Rattle.test_report_engine.specs.Reading.{TakesLine};
@@ -18,11 +18,11 @@ use program_io::device::Sink;
 use std::alloc::Global;
 use test_report_events::line::Line;
 use test_report_run::error::RunError;
-use test_report_run::note::{CommandEnd, Disagreement, Note};
 use test_report_run::run::TestRun;
+use test_report_run_notes::note::{CommandEnd, Disagreement, Note};
 
 /// Passes on what of a line is no event, and takes the events of the line. Returns the notes that they make known.
-/// Fails only if memory runs out, or a number of the run does not fit.
+/// Fails only if memory runs out, or if a number of the run does not fit after one of these events.
 pub(crate) fn notes_of_line<O: Sink>(
     alloc: Global,
     run: &mut TestRun,
@@ -37,7 +37,7 @@ pub(crate) fn notes_of_line<O: Sink>(
         ≡ (sink_state O.failed O.flushed O.written others.old))
         ⊎ GetsOthers (bytes.now ∷ []) (sink_state O.failed O.flushed O.written others.old)
         (sink_state O.failed O.flushed O.written others.new)) }
-    ensures room { ((events : List EventView) → LineSays bytes.now events → LineFits (run_of run.old) events)
+    ensures room { ((events : List EventView) → LineSays bytes.now events → LineEventsFit (run_of run.old) events)
         → OnlyMemory result }
 {
     let line = Line::read(alloc, bytes)?;
@@ -47,7 +47,7 @@ pub(crate) fn notes_of_line<O: Sink>(
 }
 
 /// Takes the end of a file, or of the output of a command that ended so. Returns the notes that it makes known. Fails
-/// only if memory runs out, or a number of the run does not fit.
+/// only if memory runs out, or if a number of the run does not fit after this end.
 pub(crate) fn notes_of_end(
     alloc: Global,
     run: &mut TestRun,

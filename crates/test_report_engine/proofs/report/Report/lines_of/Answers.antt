@@ -1,5 +1,5 @@
 use Rattle.std.proofs.Common.{◌∙◌, ◌++◌, ap, arith, map, refl, string_bytes, subst, take_all}
-use Rattle.test_report_run.specs.Note.{note_view}
+use Rattle.test_report_run_notes.specs.Note.{note_view}
 use Rattle.test_report_engine.proofs.Notes.{TakesSome, takes-line, takes-more, takes-start}
 use Rattle.test_report_engine.proofs.report.Report.lines_of.Goals as goal
 

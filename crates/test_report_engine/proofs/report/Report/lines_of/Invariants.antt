@@ -1,5 +1,5 @@
 use Rattle.std.proofs.Common.{◌≡◌, map, string_bytes, take}
-use Rattle.test_report_run.specs.Note.{note_view}
+use Rattle.test_report_run_notes.specs.Note.{note_view}
 use Rattle.test_report_engine.proofs.Notes.{TakesSome}
 use Rattle.test_report_engine.proofs.report.Report.lines_of.Given as goal
 

@@ -1,6 +1,6 @@
 use Rattle.std.proofs.Common.{subst}
 use Rattle.std.proofs.lemmas.Result.{on_ok_weaker}
-use Rattle.test_report_engine.specs.Fits.{LineFits}
+use Rattle.test_report_engine.specs.Fits.{LineEventsFit}
 use Rattle.test_report_engine.proofs.Fits.{faulted}
 use Rattle.test_report_engine.proofs.Inputs.{line-none, line-read, line-start}
 use Rattle.test_report_engine.proofs.Notes.{on_err, on_err_weaker}
@@ -30,4 +30,4 @@ returns-in_err-notes-clause-room g c = λ events says fits.
     let bytes = c.args.bytes.now in
     faulted c.from_residual.result _ c.from_residual.ensures.1
     (c.in_err-notes.ensures.room
-    (λ other other-says. subst (LineFits (run_of c.args.self.now.run)) (c.one_reading_of_line.ensures bytes events other says other-says) fits))
+    (λ other other-says. subst (LineEventsFit (run_of c.args.self.now.run)) (c.one_reading_of_line.ensures bytes events other says other-says) fits))

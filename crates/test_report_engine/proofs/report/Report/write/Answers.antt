@@ -1,5 +1,5 @@
 use Rattle.std.proofs.Common.{◌∷◌, [], map}
-use Rattle.test_report_run.specs.Note.{note_view}
+use Rattle.test_report_run_notes.specs.Note.{note_view}
 use Rattle.test_report_engine.proofs.Notes.{on_err, starts-text}
 use Rattle.test_report_engine.proofs.report.Report.write.Goals as goal
 

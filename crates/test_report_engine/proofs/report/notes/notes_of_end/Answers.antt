@@ -1,9 +1,9 @@
 use Rattle.std.proofs.Common.{◌≡◌, Some, map, option_map, subst, sym}
 use Rattle.std.proofs.lemmas.Result.{IfOk-weaker, on_ok_weaker}
-use Rattle.test_report_run.specs.Note.{command_view, note_view}
+use Rattle.test_report_run_notes.specs.Note.{command_view, note_view}
 use Rattle.test_report_run.specs.Run.{file_notes, run_state}
 use Rattle.test_report_events.specs.Event.{CommandView}
-use Rattle.test_report_engine.specs.Fits.{EndFits}
+use Rattle.test_report_engine.specs.Fits.{InputEndFits}
 use Rattle.test_report_engine.specs.Lines.{events_after}
 use Rattle.test_report_engine.proofs.Fits.{end-room, over-fits}
 use Rattle.test_report_engine.specs.Report.{end_notes, parts, run_after, run_of}
@@ -57,4 +57,4 @@ returns-clause-room c = λ fits.
           subst (λ o. LearnsEnd (option_map (λ end. command_view end.now) o) c.args.run.now c.match-command.run) (sym w.in_default.is)
           (learns-none c.args.run.now c.match-command.run w.run-is)
     ] in
-    c.end_file.ensures.room (end-room c.match-command.run (subst EndFits (sym learns) (over-fits command (run_of c.args.run.now) fits)))
+    c.end_file.ensures.room (end-room c.match-command.run (subst InputEndFits (sym learns) (over-fits command (run_of c.args.run.now) fits)))

@@ -1,6 +1,7 @@
 use Rattle.std.proofs.Common.{inr, subst, sym}
 use Rattle.test_report_events.specs.Line.{RestOf}
-use Rattle.test_report_engine.proofs.Fits.{line-room, passed-on}
+use Rattle.test_report_run.proofs.Fits.{passed-on}
+use Rattle.test_report_engine.proofs.Fits.{line-room}
 use Rattle.test_report_engine.proofs.Inputs.{line-takes}
 use Rattle.test_report_engine.proofs.Notes.{on_err}
 use Rattle.test_report_engine.proofs.PassedOn.{others-one}
