@@ -4,7 +4,7 @@ use Rattle.std.proofs.lemmas.Bool.Decides.{nat_tests}
 use Rattle.std.proofs.lemmas.List.{drop-append-le, length-map, map-append, take_more}
 use Rattle.std.proofs.lemmas.List.Elements.{filter-append}
 use Rattle.std.specs.List.{join_with_byte}
-use Rattle.test_report_run.specs.Prints.{is_blank}
+use Rattle.test_report_run_notes.specs.Texts.{is_blank}
 
 -- one more part
 join-push : (c : ℕ) (y : List ℕ) (ys : List (List ℕ)) (x : List ℕ)

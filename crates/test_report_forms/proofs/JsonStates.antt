@@ -2,6 +2,7 @@
 use Rattle.std.proofs.Common.{◌≡◌, ◌∙◌, refl, sym, ap, ℕ, List, [], ◌∷◌, ◌++◌, map, Option, Some, None, option_map, string_bytes, String, Global, append_assoc}
 use Rattle.std.proofs.lemmas.List.{map-append}
 use Rattle.json.specs.Json.{Json}
+use Rattle.test_report_run_notes.specs.Note.{SuiteNoteView}
 use Rattle.test_report_forms.proofs.Suites.{map_added, map_over, map_without}
 use Rattle.test_report_forms.specs.Json.{IsStateOf, JsonState, end_suite}
 use Rattle.test_report_forms.specs.JsonText.{json_text}
@@ -9,7 +10,6 @@ use Rattle.test_report_forms.specs.JsonValues.{open_suite_json, suite_json}
 use Rattle.test_report_forms.specs.Suites.{SuiteOf, added_to, map_cases, open_of, suite_of, suite_over, without_first}
 use Rattle.test_report_forms.specs.declared.json_form.JsonForm.{JsonForm}
 use Rattle.test_report_forms.specs.declared.open_suites.Suite.{Suite}
-use Rattle.test_report_run.specs.Note.{SuiteNoteView}
 
 -- one more test in the suites that are kept as texts
 pub more_test : {S : Type 0} (view : S → List ℕ) (name : Option (List ℕ)) (test : S) (t : Json) (kept : List (SuiteOf S)) (known : List (SuiteOf Json))

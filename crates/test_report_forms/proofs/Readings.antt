@@ -5,6 +5,7 @@ use Rattle.output_slice.specs.First.{IsFirstTaken}
 use Rattle.output_slice.specs.Laws.{OneExtraction, TakenHeadsExist}
 use Rattle.output_slice.specs.Taken.{IsLastTaken, last_of}
 use Rattle.output_slice.specs.declared.panic_head.HeadSpan.{HeadSpan}
+use Rattle.test_report_run_notes.specs.Note.{CargoSays, CommandFails, Disagrees, EndsEarly, Fails, FlakyEnds, HasNoEvent, IsDamaged, IsNotRun, IsSkipped, NoteView, OutcomeView, Passes, SaysOther, StartsOutside, StrayEnds, StraySuiteEnds, SuiteIs, TestIs, TestNoteView}
 use Rattle.test_report_forms.specs.CargoWhy.{cargo_why}
 use Rattle.test_report_forms.specs.Entry.{EntryView, IsEntryOf, IsTestEntry, LinesDisagree, TestFailed}
 use Rattle.test_report_forms.specs.Explanation.{FoundView, IsFoundIn, explanation_in}
@@ -13,7 +14,6 @@ use Rattle.test_report_forms.specs.Lines.{first_line}
 use Rattle.test_report_forms.specs.Place.{output, place_of}
 use Rattle.test_report_forms.specs.Short.{IsShort, short_of}
 use Rattle.test_report_forms.specs.Why.{IsShortOr, IsShortReason, first_part, own_reason, parts_of, slice_or_lines}
-use Rattle.test_report_run.specs.Note.{CargoSays, CommandFails, Disagrees, EndsEarly, Fails, FlakyEnds, HasNoEvent, IsDamaged, IsNotRun, IsSkipped, NoteView, OutcomeView, Passes, SaysOther, StartsOutside, StrayEnds, StraySuiteEnds, SuiteIs, TestIs, TestNoteView}
 
 module _ (heads : TakenHeadsExist) (extraction : OneExtraction) where
   last-same : (b : List ℕ) (f g : Option HeadSpan) → IsLastTaken b f → IsLastTaken b g → f ≡ g

@@ -13,7 +13,7 @@ use Rattle.std.proofs.lemmas.Bool.{cases_eq, cases_lt, le-ltb, lt-ltb}
 use Rattle.std.proofs.lemmas.Bool.Decides.{nat_tests}
 use Rattle.std.proofs.lemmas.List.Elements.{All-cons, All-head, All-nil, All-tail, All-weaker}
 use Rattle.std.proofs.lemmas.List.{length-append}
-use Rattle.test_report_run.proofs.Places.{map-insert}
+use Rattle.test_report_run_notes.proofs.Places.{map-insert}
 use Rattle.test_report_forms.specs.List.{KeyedLine, falling_place, slow_line_view}
 use Rattle.test_report_forms.specs.Slowest.{IsNumbered}
 use Rattle.test_report_forms.specs.Values.{longest_time}

@@ -2,9 +2,9 @@
 use Rattle.std.specs.Prelude.{◌≡◌, List, ℕ, Option, None, option_map}
 use Rattle.std.specs.Option.{option_or}
 use Rattle.std.specs.Str.Lossy.{utf8_lossy}
+use Rattle.test_report_run_notes.specs.Note.{CargoSays, CargoView, CommandFails, DisagreementView, EndsEarly, HasNoEvent, IsDamaged, SaysOther, StartsOutside, StrayEnds, StraySuiteEnds}
 use Rattle.test_report_forms.specs.Explanation.{FoundView, IsFoundIn, explanation_in}
 use Rattle.test_report_forms.specs.Written.{ten_written}
-use Rattle.test_report_run.specs.Note.{CargoSays, CargoView, CommandFails, DisagreementView, EndsEarly, HasNoEvent, IsDamaged, SaysOther, StartsOutside, StrayEnds, StraySuiteEnds}
 
 -- what prints say: their explanation or, if there is none, ten of their lines
 abbrev pub said_by : List ℕ → FoundView → Option (List ℕ)

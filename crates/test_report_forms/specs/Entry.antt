@@ -1,10 +1,10 @@
 -- The entries of a report.
 use Rattle.std.specs.Prelude.{◌≡◌, ℕ, List, Option, option_map, string_bytes}
+use Rattle.test_report_run_notes.specs.Note.{DisagreementView, Disagrees, FailureView, Fails, FlakyEnds, IsNotRun, IsSkipped, NoteView, OutcomeView, Passes, SuiteIs, SuiteNoteView, TestIs, TestNoteView, disagreement_view, failure_view, suite_view, test_view}
 use Rattle.test_report_forms.specs.CargoWhy.{IsReasonOf}
 use Rattle.test_report_forms.specs.Why.{IsWhy, WhyView, why_view}
 use Rattle.test_report_forms.specs.declared.entry.Entry.{Entry}
 use Rattle.test_report_forms.specs.declared.entry.Entry.TheVariants as entry
-use Rattle.test_report_run.specs.Note.{DisagreementView, Disagrees, FailureView, Fails, FlakyEnds, IsNotRun, IsSkipped, NoteView, OutcomeView, Passes, SuiteIs, SuiteNoteView, TestIs, TestNoteView, disagreement_view, failure_view, suite_view, test_view}
 
 -- an entry: what a note says, why the test failed if the note is of a failed test, and what explains a disagreement, if anything does
 pub data EntryView : Type 0 where

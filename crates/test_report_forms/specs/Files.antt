@@ -1,5 +1,7 @@
 -- The forms that are written to files.
 use Rattle.std.specs.Prelude.{◌≡◌, ℕ, List, IfSome, Option, option_map}
+use Rattle.test_report_run_notes.specs.Note.{text_view}
+use Rattle.test_report_run_notes.specs.declared.note.RunEnd.{RunEnd}
 use Rattle.test_report_forms.specs.Entry.{EntryView}
 use Rattle.test_report_forms.specs.Html.{html_of}
 use Rattle.test_report_forms.specs.Json.{IsStateOf, json_state, json_written}
@@ -13,8 +15,6 @@ use Rattle.test_report_forms.specs.declared.html.HtmlForm.{HtmlForm}
 use Rattle.test_report_forms.specs.declared.json_form.JsonForm.{JsonForm}
 use Rattle.test_report_forms.specs.declared.junit.JunitForm.{JunitForm}
 use Rattle.test_report_forms.specs.declared.markdown.MarkdownForm.{MarkdownForm}
-use Rattle.test_report_run.specs.Note.{text_view}
-use Rattle.test_report_run.specs.declared.note.RunEnd.{RunEnd}
 
 -- a form has taken these entries, if there is a form
 abbrev pub HasTaken : {F : Type 0} → (F → List EntryView → Type 0) → Option F → List EntryView → Type 0

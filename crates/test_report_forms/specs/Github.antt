@@ -4,6 +4,8 @@ use Rattle.std.specs.Char.{encode_utf8}
 use Rattle.std.specs.List.{flat_map}
 use Rattle.std.specs.Option.{option_map_or}
 use Rattle.std.specs.Str.{chars}
+use Rattle.test_report_run_notes.specs.Note.{FailureView, TestNoteView}
+use Rattle.test_report_run_notes.specs.declared.note.RunEnd.{RunEnd}
 use Rattle.test_report_forms.specs.Entry.{EntryView, TestFailed}
 use Rattle.test_report_forms.specs.Model.{CauseView, cause_of_entry}
 use Rattle.test_report_forms.specs.Shown.{shown_line, shown_text}
@@ -12,8 +14,6 @@ use Rattle.test_report_forms.specs.Title.{title}
 use Rattle.test_report_forms.specs.Why.{PlaceView, WhyView}
 use Rattle.test_report_forms.specs.Words.{outcome_word, summary_line}
 use Rattle.test_report_forms.specs.declared.options.Options.{Options}
-use Rattle.test_report_run.specs.Note.{FailureView, TestNoteView}
-use Rattle.test_report_run.specs.declared.note.RunEnd.{RunEnd}
 
 -- a character of a message
 abbrev pub data_char : ℕ → List ℕ

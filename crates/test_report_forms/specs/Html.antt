@@ -9,13 +9,14 @@ use Rattle.template.specs.Parse.{template_parts}
 use Rattle.template.specs.Sections.{first_section, sections}
 use Rattle.template.specs.Template.{Parts, Values, parts_text, values_of}
 use Rattle.template.specs.declared.hole.Hole.TheVariants as hole
+use Rattle.test_report_run_notes.specs.declared.note.RunEnd.{RunEnd}
 use Rattle.test_report_forms.specs.Entry.{EntryView}
+use Rattle.test_report_forms.specs.Flaky.{FlakyView}
 use Rattle.test_report_forms.specs.Holes.{HoleView, PhraseView, has_hole, holes, number_holes, output_holes, phrase_text, phrases, problem_holes, shows_phrase}
 use Rattle.test_report_forms.specs.Model.{FailedView, ProblemView, RowView}
 use Rattle.test_report_forms.specs.Skipped.{SkippedView}
-use Rattle.test_report_forms.specs.Values.{failed_values, problem_values, skip_values, suite_values, values_of_run}
+use Rattle.test_report_forms.specs.Values.{failed_values, flaky_values, problem_values, skip_values, suite_values, values_of_run}
 use Rattle.test_report_forms.specs.declared.page_template.TheConstants.{PAGE}
-use Rattle.test_report_run.specs.declared.note.RunEnd.{RunEnd}
 use Rattle.test_report_forms.specs.declared.options.Options.{Options}
 
 -- the template of the page
@@ -62,7 +63,9 @@ page_holes =
     ++ (suite_holes (codes "suites" ∷ codes "suite" ∷ [])
     ++ (holes hole.Text (codes "slowest" ∷ codes "slow" ∷ []) (codes "name" ∷ codes "share" ∷ codes "seconds" ∷ [])
     ++ (holes hole.Attribute (codes "slowest" ∷ codes "slow" ∷ []) (codes "share" ∷ [])
-    ++ holes hole.Text (codes "skips" ∷ codes "skip" ∷ []) (codes "name" ∷ codes "reason" ∷ [])))))))))
+    ++ (holes hole.Text (codes "skips" ∷ codes "skip" ∷ []) (codes "name" ∷ codes "reason" ∷ [])
+    ++ (holes hole.Text (codes "flaky_tests" ∷ codes "test" ∷ []) (codes "name" ∷ codes "attempts" ∷ [])
+    ++ holes hole.Text (codes "flaky_tests" ∷ codes "test" ∷ codes "time" ∷ []) (codes "seconds" ∷ [])))))))))))
 
 -- the heading, with the outcome
 abbrev pub heading_phrase : List ℕ
@@ -122,6 +125,11 @@ slow_phrase =
 abbrev pub skip_phrase : List ℕ
 skip_phrase = codes "<tr><th scope=\"row\">{{name}}</th><td class=\"reason\">{{reason}}</td></tr>"
 
+-- the row of a test that passed after several attempts
+abbrev pub flaky_phrase : List ℕ
+flaky_phrase =
+    codes "<tr><th scope=\"row\">{{name}}</th><td>{{attempts}}</td><td class=\"time\">{{#time}}{{seconds}}s{{/time}}"
+
 -- the columns of the table of suites
 abbrev pub suite_columns : List ℕ
 suite_columns = codes "<th scope=\"col\">Suite</th><th scope=\"col\">Tests</th><th scope=\"col\" class=\"time\">Time</th>"
@@ -133,6 +141,10 @@ slow_columns = codes "<th scope=\"col\">Test</th><th scope=\"col\">Share of the 
 -- the columns of the table of skipped tests
 abbrev pub skip_columns : List ℕ
 skip_columns = codes "<th scope=\"col\">Test</th><th scope=\"col\">Reason</th>"
+
+-- the columns of the table of tests that passed after several attempts
+abbrev pub flaky_columns : List ℕ
+flaky_columns = codes "<th scope=\"col\">Test</th><th scope=\"col\">Attempts</th><th scope=\"col\" class=\"time\">Time</th>"
 
 -- the heading of a section and the columns of its table
 abbrev pub table_phrase : List ℕ → List ℕ → List ℕ
@@ -153,7 +165,9 @@ page_phrases =
     ++ (phrases (codes "slowest" ∷ []) (table_phrase (codes "Slowest tests") slow_columns ∷ [])
     ++ (phrases (codes "slowest" ∷ codes "slow" ∷ []) (slow_phrase ∷ [])
     ++ (phrases (codes "skips" ∷ []) (table_phrase (codes "Skipped tests") skip_columns ∷ [])
-    ++ phrases (codes "skips" ∷ codes "skip" ∷ []) (skip_phrase ∷ [])))))))))))
+    ++ (phrases (codes "skips" ∷ codes "skip" ∷ []) (skip_phrase ∷ [])
+    ++ (phrases (codes "flaky_tests" ∷ []) (table_phrase (codes "Flaky tests") flaky_columns ∷ [])
+    ++ phrases (codes "flaky_tests" ∷ codes "test" ∷ []) (flaky_phrase ∷ [])))))))))))))
 
 -- the heading of the page with this word for the outcome
 abbrev pub page_heading : List ℕ → List ℕ
@@ -188,6 +202,10 @@ suite_text r = phrase_text suite_phrase (suite_values r)
 -- the row of a skipped test that has a reason
 abbrev pub skip_text : SkippedView → List ℕ
 skip_text t = phrase_text skip_phrase (skip_values t)
+
+-- the row of a test that passed after several attempts
+abbrev pub flaky_text : FlakyView → List ℕ
+flaky_text t = phrase_text flaky_phrase (flaky_values t)
 
 -- The template of the page is one element without control characters. It ends by `/>` only elements that have no content in HTML, and none of these by
 -- an end tag. It has all holes and phrases. There is one section for each failed test, with the holes of a failed test, and one for each problem, with

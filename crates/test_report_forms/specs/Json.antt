@@ -3,6 +3,8 @@ use Rattle.std.specs.Prelude.{◌≡◌, ◌++◌, ◌∷◌, [], ℕ, List, cod
 use Rattle.std.specs.List.{fold}
 use Rattle.std.specs.Option.{option_map_or}
 use Rattle.json.specs.Json.{Json}
+use Rattle.test_report_run_notes.specs.Note.{SuiteNoteView}
+use Rattle.test_report_run_notes.specs.declared.note.RunEnd.{RunEnd}
 use Rattle.test_report_forms.specs.Entry.{EntryView, FlakyPassed, LinesDisagree, SuiteNotRun, SuiteOver, TestFailed, TestPassed, TestSkipped}
 use Rattle.test_report_forms.specs.JsonText.{hidden, json_text}
 use Rattle.test_report_forms.specs.JsonValues.{failed_json, open_suite_json, passed_json, problem_json, report_json, skipped_json, suite_json}
@@ -10,8 +12,6 @@ use Rattle.test_report_forms.specs.Model.{CauseView, cause_of_entry}
 use Rattle.test_report_forms.specs.Skipped.{skip_reason}
 use Rattle.test_report_forms.specs.Suites.{SuiteOf, added_to, map_cases, open_of, suite_over, without_first}
 use Rattle.test_report_forms.specs.declared.json_form.JsonForm.{JsonForm}
-use Rattle.test_report_run.specs.Note.{SuiteNoteView}
-use Rattle.test_report_run.specs.declared.note.RunEnd.{RunEnd}
 use Rattle.test_report_forms.specs.declared.options.Options.{Options}
 
 -- what is known of the entries: the open suites with their tests, the suites that are over, and the problems

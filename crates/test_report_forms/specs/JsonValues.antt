@@ -3,6 +3,8 @@ use Rattle.std.specs.Prelude.{◌-◌, ◌++◌, ◌∷◌, [], ℕ, Bool, List,
 use Rattle.std.specs.Fmt.{decimal}
 use Rattle.json.specs.Json.{Json, boolean, number, string}
 use Rattle.run_events_stats.specs.declared.stats.RunStats.{RunStats}
+use Rattle.test_report_run_notes.specs.Note.{FailureView, HasCrashed, HasFailed, HasNoEnd, HasTimedOut, IsFlaky, KindView, SuiteNoteView, TestNoteView}
+use Rattle.test_report_run_notes.specs.declared.note.RunEnd.{RunEnd}
 use Rattle.test_report_forms.specs.JsonText.{Member, list_of, object_of}
 use Rattle.test_report_forms.specs.Model.{CauseView, no_tests_ran}
 use Rattle.test_report_forms.specs.Place.{PlaceView}
@@ -11,8 +13,6 @@ use Rattle.test_report_forms.specs.Suites.{SuiteOf}
 use Rattle.test_report_forms.specs.Title.{title_name}
 use Rattle.test_report_forms.specs.Why.{WhyView}
 use Rattle.test_report_forms.specs.Words.{outcome_word}
-use Rattle.test_report_run.specs.Note.{FailureView, HasCrashed, HasFailed, HasNoEnd, HasTimedOut, IsFlaky, KindView, SuiteNoteView, TestNoteView}
-use Rattle.test_report_run.specs.declared.note.RunEnd.{RunEnd}
 use Rattle.test_report_forms.specs.ShownWhy.{ShownWhyView, hidden_note, shown_why}
 use Rattle.test_report_forms.specs.declared.options.Options.{Options}
 

@@ -4,6 +4,7 @@ use Rattle.std.specs.List.{fold}
 use Rattle.std.specs.Option.{option_map_or}
 use Rattle.template.specs.Parse.{template_parts}
 use Rattle.template.specs.Template.{Parts, Values, parts_text, values_of}
+use Rattle.test_report_run_notes.specs.declared.note.RunEnd.{RunEnd}
 use Rattle.test_report_forms.specs.Model.{CauseView, cause_of_entry, no_tests_ran}
 use Rattle.test_report_forms.specs.Entry.{EntryView, FlakyPassed, LinesDisagree, SuiteNotRun, SuiteOver, TestFailed, TestPassed, TestSkipped}
 use Rattle.test_report_forms.specs.JunitCase.{CaseView, case_view, case_of_cause, failed_case, own_name, passed_case, problem_case, skipped_case}
@@ -13,7 +14,6 @@ use Rattle.test_report_forms.specs.Suites.{added_to, open_list, suite_over, with
 use Rattle.test_report_forms.specs.declared.junit.JunitForm.{JunitForm}
 use Rattle.test_report_forms.specs.declared.junit_template.TheConstants.{JUNIT}
 use Rattle.test_report_forms.specs.declared.options.Options.{Options}
-use Rattle.test_report_run.specs.declared.note.RunEnd.{RunEnd}
 
 -- what is kept of the entries: the open suites, those that are over, and the test cases of causes that name no suite
 pub record JunitState : Type 0 where

@@ -1,5 +1,6 @@
 -- The test cases of JUnit's XML.
 use Rattle.std.specs.Prelude.{◌-◌, ◌==◌, ℕ, Bool, true, false, not, if◌then◌else◌, List, codes, map, min, Option, None, option_map, string_bytes, unwrap_or}
+use Rattle.test_report_run_notes.specs.Note.{FailureView, HasCrashed, HasFailed, HasNoEnd, HasTimedOut, IsFlaky, KindView, TestNoteView, text_view}
 use Rattle.test_report_forms.specs.Model.{CauseView, FailedView, shown_failure_of, shown_reason, suite_name}
 use Rattle.test_report_forms.specs.Shown.{shown_line, shown_name, whole_text}
 use Rattle.test_report_forms.specs.Skipped.{skip_reason}
@@ -10,7 +11,6 @@ use Rattle.test_report_forms.specs.declared.junit_case.CasePlace.{CasePlace}
 use Rattle.test_report_forms.specs.declared.junit_case.CaseKind.{CaseKind}
 use Rattle.test_report_forms.specs.declared.junit_case.CaseKind.TheVariants as kind
 use Rattle.test_report_forms.specs.declared.junit_case.Reason.{Reason}
-use Rattle.test_report_run.specs.Note.{FailureView, HasCrashed, HasFailed, HasNoEnd, HasTimedOut, IsFlaky, KindView, TestNoteView, text_view}
 use Rattle.test_report_forms.specs.declared.options.Options.{Options}
 
 -- why a test case failed: an error or a failure, with its short reason, its type and its long reason, and the output of the test

@@ -2,6 +2,7 @@
 use Rattle.std.specs.Prelude.{◌≡◌, ◌++◌, ◌∷◌, ◌&&◌, [], not, ℕ, List, if◌then◌else◌, Option, Some}
 use Rattle.std.specs.List.{flat_map}
 use Rattle.std.specs.Option.{option_map_or}
+use Rattle.test_report_run_notes.specs.declared.note.RunEnd.{RunEnd}
 use Rattle.test_report_forms.specs.Entry.{EntryView, FlakyPassed, LinesDisagree, SuiteNotRun, SuiteOver, TestFailed, TestPassed, TestSkipped}
 use Rattle.test_report_forms.specs.Junit.{junit_suites, own_cases, own_suite}
 use Rattle.test_report_forms.specs.JunitCase.{CaseView, case_of_cause, failed_case, passed_case, skipped_case}
@@ -9,7 +10,6 @@ use Rattle.test_report_forms.specs.JunitSuite.{SuiteView}
 use Rattle.test_report_forms.specs.Model.{CauseView, cause_of_entry, no_tests_ran}
 use Rattle.test_report_forms.specs.Suites.{is_named, same_name}
 use Rattle.test_report_forms.specs.declared.options.Options.{Options}
-use Rattle.test_report_run.specs.declared.note.RunEnd.{RunEnd}
 
 -- the test cases of the suites with this name
 abbrev pub cases_named : Option (List ℕ) → List SuiteView → List CaseView

@@ -1,9 +1,9 @@
 -- Laws of entries.
 use Rattle.std.specs.Prelude.{◌≡◌, List, Option, ℕ}
+use Rattle.test_report_run_notes.specs.Note.{DisagreementView, FailureView, NoteView, TestNoteView}
 use Rattle.test_report_forms.specs.CargoWhy.{IsReasonOf}
 use Rattle.test_report_forms.specs.Entry.{EntryView, IsEntryOf}
 use Rattle.test_report_forms.specs.Why.{IsWhy, WhyView}
-use Rattle.test_report_run.specs.Note.{DisagreementView, FailureView, NoteView, TestNoteView}
 
 -- Why a test failed is said in one way.
 abbrev pub OneWhy : Type 0

@@ -15,10 +15,10 @@ use Rattle.run_events_results.specs.declared.results.CancelReason.{CancelReason}
 use Rattle.run_events_results.specs.declared.results.ExecutionResultDescription.TheVariants as described
 use Rattle.run_events_settings.specs.declared.config.TestOutputDisplay.{TestOutputDisplay}
 use Rattle.run_events_settings.specs.declared.config.TestOutputDisplay.TheVariants as display
+use Rattle.test_report_run_notes.specs.Finish.{view_of_finish}
+use Rattle.test_report_run_notes.specs.declared.finish.Finish.TheVariants as finish
+use Rattle.test_report_run_notes.specs.declared.finish.Finish.{Finish}
 use Rattle.test_report_forms.specs.declared.options.Options.{Options}
-use Rattle.test_report_run.specs.Counted.{view_of_finish}
-use Rattle.test_report_run.specs.declared.counted.Finish.{Finish}
-use Rattle.test_report_run.specs.declared.counted.Finish.TheVariants as finish
 
 -- the levels of a report
 abbrev pub levels_of : Options → StatusLevels

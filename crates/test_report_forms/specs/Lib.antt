@@ -3,6 +3,7 @@ pub mod Commands
 pub mod Entry
 pub mod Explanation
 pub mod Files
+pub mod Flaky
 pub mod Form
 pub mod Github
 pub mod Holes

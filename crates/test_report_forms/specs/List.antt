@@ -7,6 +7,9 @@ use Rattle.std.specs.Option.{option_map_or}
 use Rattle.run_events_levels.specs.LevelRanks.{final_level_rank}
 use Rattle.run_events_levels.specs.declared.levels.FinalStatusLevel.{FinalStatusLevel}
 use Rattle.run_events_levels.specs.declared.levels.FinalStatusLevel.TheVariants as final
+use Rattle.test_report_run_notes.specs.Finish.{finish_for}
+use Rattle.test_report_run_notes.specs.Note.{TestNoteView}
+use Rattle.test_report_run_notes.specs.declared.finish.Finish.TheVariants.{Passed}
 use Rattle.test_report_forms.specs.Entry.{EntryView, TestFailed, TestPassed, TestSkipped}
 use Rattle.test_report_forms.specs.Levels.{finished_output, listed_text, own_final_level, skipped_output}
 use Rattle.test_report_forms.specs.PassedOutput.{output_lines}
@@ -20,9 +23,6 @@ use Rattle.test_report_forms.specs.declared.flaky_lines.FlakyLines.{FlakyLines}
 use Rattle.test_report_forms.specs.declared.options.Options.{Options}
 use Rattle.test_report_forms.specs.declared.slowest.SlowTest.{SlowTest}
 use Rattle.test_report_forms.specs.declared.slowest.Slowest.{Slowest}
-use Rattle.test_report_run.specs.Counted.{finish_for}
-use Rattle.test_report_run.specs.Note.{TestNoteView}
-use Rattle.test_report_run.specs.declared.counted.Finish.TheVariants.{Passed}
 
 -- a line, and the number by which it is put in order
 pub record KeyedLine : Type 0 where

@@ -9,6 +9,7 @@ use Rattle.template.specs.Parse.{template_parts}
 use Rattle.template.specs.Sections.{sections}
 use Rattle.template.specs.Template.{ItemValue, NoParts, NoValues, Parts, ValueView, Values, parts_text, section, values_of}
 use Rattle.template.specs.declared.hole.Hole.TheVariants as hole
+use Rattle.test_report_run_notes.specs.declared.note.RunEnd.{RunEnd}
 use Rattle.test_report_forms.specs.Entry.{EntryView}
 use Rattle.test_report_forms.specs.Holes.{HoleView, PhraseView, has_hole, holes, number_holes, output_holes, phrases, problem_holes, shows_phrase}
 use Rattle.test_report_forms.specs.Model.{FailedView, ReportView, no_tests_ran, report_of}
@@ -16,7 +17,6 @@ use Rattle.test_report_forms.specs.Values.{failed_items, failed_values, one_text
 use Rattle.test_report_forms.specs.declared.markdown_template.TheConstants.{FAILED, MARKDOWN}
 use Rattle.test_report_forms.specs.WholeOutput.{summary_limits}
 use Rattle.test_report_forms.specs.Words.{outcome_word}
-use Rattle.test_report_run.specs.declared.note.RunEnd.{RunEnd}
 use Rattle.test_report_forms.specs.declared.options.Options.{Options}
 
 -- the template of the summary

@@ -4,7 +4,10 @@ use Rattle.std.specs.List.{fold}
 use Rattle.std.specs.Option.{option_map_or}
 use Rattle.run_events_stats.specs.declared.outcome.run_outcome.RunOutcome.{RunOutcome}
 use Rattle.run_events_stats.specs.declared.outcome.run_outcome.RunOutcome.TheVariants as outcome
+use Rattle.test_report_run_notes.specs.Note.{CargoSays, CommandFails, DisagreementView, EndsEarly, FailureView, HasNoEvent, IsDamaged, SaysOther, StartsOutside, StrayEnds, StraySuiteEnds, SuiteNoteView, TestNoteView, text_view}
+use Rattle.test_report_run_notes.specs.declared.note.RunEnd.{RunEnd}
 use Rattle.test_report_forms.specs.Entry.{EntryView, FlakyPassed, LinesDisagree, SuiteNotRun, SuiteOver, TestFailed, TestPassed, TestSkipped}
+use Rattle.test_report_forms.specs.Flaky.{FlakyView, flaky_tests, flaky_view}
 use Rattle.test_report_forms.specs.List.{KeyedLine, kept_lines, put_falling}
 use Rattle.test_report_forms.specs.Shown.{front, shown_name, shown_text}
 use Rattle.test_report_forms.specs.ShownWhy.{limited_why, shown_why}
@@ -21,8 +24,6 @@ use Rattle.test_report_forms.specs.declared.model.SuiteRow.{SuiteRow}
 use Rattle.test_report_forms.specs.declared.numbers.Numbers.{Numbers}
 use Rattle.test_report_forms.specs.declared.options.Options.{Options}
 use Rattle.test_report_forms.specs.declared.whole_output.OutputLimits.{OutputLimits}
-use Rattle.test_report_run.specs.Note.{CargoSays, CommandFails, DisagreementView, EndsEarly, FailureView, HasNoEvent, IsDamaged, SaysOther, StartsOutside, StrayEnds, StraySuiteEnds, SuiteNoteView, TestNoteView, text_view}
-use Rattle.test_report_run.specs.declared.note.RunEnd.{RunEnd}
 
 -- a failed test as it is shown
 pub record FailedView : Type 0 where
@@ -286,6 +287,7 @@ pub record ReportView : Type 0 where
   pub suites : List RowView
   pub slowest : List KeyedLine
   pub skipped : List SkippedView
+  pub flaky : List FlakyView
 
 -- the report of a run with these entries, with the outputs that the limits allow
 abbrev pub report_of : OutputLimits → Options → List EntryView → RunEnd → ReportView
@@ -296,6 +298,7 @@ report_of limits o entries end = record {
   suites = suite_rows entries;
   slowest = slowest_tests entries;
   skipped = skipped_tests entries;
+  flaky = flaky_tests entries;
 }
 
 -- the report of what is kept
@@ -307,6 +310,7 @@ report_view m end = record {
   suites = map row_view m.suites.items;
   slowest = kept_lines m.slowest;
   skipped = map skipped_view m.skipped.items;
+  flaky = map flaky_view m.flaky.items;
 }
 
 -- what is kept is of these entries, with the outputs that the limits allow
@@ -319,3 +323,4 @@ pub record IsModelOf (limits : OutputLimits) (m : ReportModel) (entries : List E
   pub slowest : kept_lines m.slowest ≡ slowest_tests entries
   pub most : m.slowest.most ≡ 10
   pub skipped : map skipped_view m.skipped.items ≡ skipped_tests entries
+  pub flaky : map flaky_view m.flaky.items ≡ flaky_tests entries

@@ -2,11 +2,11 @@
 use Rattle.std.specs.Prelude.{◌==◌, ◌++◌, ℕ, Bool, List, [], if◌then◌else◌, length, None, Option, Some}
 use Rattle.std.specs.Option.{is_some, option_map_or}
 use Rattle.std.specs.Str.{trim_end}
+use Rattle.test_report_run_notes.specs.Note.{Fails, IsSkipped, OutcomeView, Passes}
 use Rattle.test_report_forms.specs.Lines.{without_returns}
 use Rattle.test_report_forms.specs.Shown.{front, indented, more_bytes}
 use Rattle.test_report_forms.specs.WhyLines.{more_line}
 use Rattle.test_report_forms.specs.declared.options.Options.{Options}
-use Rattle.test_report_run.specs.Note.{Fails, IsSkipped, OutcomeView, Passes}
 
 -- an output without the white space at its end, unless nothing is left
 abbrev pub written_output : List ℕ → Option (List ℕ)

@@ -7,12 +7,12 @@ use Rattle.std.specs.Option.{option_or}
 use Rattle.std.specs.Str.{bytes_eq}
 use Rattle.std.specs.Str.Lines.{strip_carriage_return}
 use Rattle.output_slice.specs.declared.panic_head.HeadSpan.{HeadSpan}
+use Rattle.test_report_run_notes.specs.Note.{FailureView, HasCrashed, HasFailed, HasNoEnd, HasTimedOut, IsFlaky, KindView, TestNoteView}
 use Rattle.test_report_forms.specs.Explanation.{FoundView}
 use Rattle.test_report_forms.specs.Lines.{first_line}
 use Rattle.test_report_forms.specs.Short.{other_thread}
 use Rattle.test_report_forms.specs.Title.{title_name}
 use Rattle.test_report_forms.specs.declared.place.Place.{Place}
-use Rattle.test_report_run.specs.Note.{FailureView, HasCrashed, HasFailed, HasNoEnd, HasTimedOut, IsFlaky, KindView, TestNoteView}
 
 -- a place in the sources: a file, and the numbers of a line and of a column in decimal digits
 pub record PlaceView : Type 0 where
@@ -90,8 +90,8 @@ unfoldable pub documented_place : List ℕ → Option PlaceView
 documented_place name = option_and_then item_place (first_cut (codes " - ") name)
 
 -- the place that the head of a panic names: what follows in its line, up to a colon at the end
-abbrev pub place_behind : List ℕ → HeadSpan → Option PlaceView
-place_behind out head = option_and_then parsed_place (without_last 58 (first_line (drop head.stop out)))
+abbrev pub place_after : List ℕ → HeadSpan → Option PlaceView
+place_after out head = option_and_then parsed_place (without_last 58 (first_line (drop head.stop out)))
 
 -- a failure of this kind is a crash
 abbrev pub is_crash : KindView → Bool
@@ -119,7 +119,7 @@ cause_head f found = if is_crash f.kind then found.first else option_or (other_t
 
 -- the place that this head names
 abbrev pub panic_place : FailureView → FoundView → Option PlaceView
-panic_place f found = option_and_then (place_behind (output f)) (cause_head f found)
+panic_place f found = option_and_then (place_after (output f)) (cause_head f found)
 
 -- the last line of a text, without the line feed that may end it and a carriage return before that
 abbrev pub last_line : List ℕ → List ℕ

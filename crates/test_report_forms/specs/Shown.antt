@@ -6,9 +6,9 @@ use Rattle.std.specs.List.{flat_map, list_all, slice_range, slice_split, starts_
 use Rattle.std.specs.Option.{option_map_or}
 use Rattle.std.specs.Str.{chars, trim_start}
 use Rattle.template.specs.Shown.{escape, is_escaped, is_within}
+use Rattle.test_report_run_notes.specs.Texts.{floor_of}
 use Rattle.test_report_forms.specs.Commands.{begins_command}
 use Rattle.test_report_forms.specs.Lines.{without_returns}
-use Rattle.test_report_run.specs.LongestEnd.{floor_of}
 
 -- at most the first bytes of a text, cut at a character
 abbrev pub front : List ℕ → ℕ → List ℕ

@@ -3,6 +3,7 @@ use Rattle.std.specs.Prelude.{◌-◌, ◌==◌, ◌&&◌, nat_le, true, false, 
 use Rattle.std.specs.Fmt.{decimal}
 use Rattle.std.specs.Option.{is_some, option_map_or}
 use Rattle.std.specs.Str.{trim_end}
+use Rattle.test_report_run_notes.specs.Note.{FailureView, HasCrashed, HasFailed, HasNoEnd, HasTimedOut, IsFlaky, KindView, TestNoteView}
 use Rattle.test_report_forms.specs.Explanation.{ExcerptView, ExplanationView, excerpt_of, explanation_excerpt, short_excerpt}
 use Rattle.test_report_forms.specs.Lines.{joined}
 use Rattle.test_report_forms.specs.Place.{is_crash, output}
@@ -13,7 +14,6 @@ use Rattle.test_report_forms.specs.declared.options.Options.{Options}
 use Rattle.test_report_forms.specs.declared.options.OutputDisplay.{OutputDisplay}
 use Rattle.test_report_forms.specs.declared.options.OutputDisplay.TheVariants as display
 use Rattle.test_report_forms.specs.declared.shown_why.ShownWhy.{ShownWhy}
-use Rattle.test_report_run.specs.Note.{FailureView, HasCrashed, HasFailed, HasNoEnd, HasTimedOut, IsFlaky, KindView, TestNoteView}
 
 -- why a test failed, before the limit, and how many lines of its output are neither shown nor blank
 pub record ShownWhyView : Type 0 where

@@ -1,10 +1,10 @@
 -- Skipped tests that have a reason.
 use Rattle.std.specs.Prelude.{ℕ, List, Option, None, filter_map, option_map, string_bytes}
+use Rattle.test_report_run_notes.specs.Note.{Fails, IsSkipped, OutcomeView, Passes, TestNoteView}
 use Rattle.test_report_forms.specs.Entry.{EntryView, FlakyPassed, LinesDisagree, SuiteNotRun, SuiteOver, TestFailed, TestPassed, TestSkipped}
 use Rattle.test_report_forms.specs.Shown.{whole_text}
 use Rattle.test_report_forms.specs.Title.{title}
 use Rattle.test_report_forms.specs.declared.skipped_test.SkippedTest.{SkippedTest}
-use Rattle.test_report_run.specs.Note.{Fails, IsSkipped, OutcomeView, Passes, TestNoteView}
 
 -- a skipped test that has a reason, as it is shown
 pub record SkippedView : Type 0 where

@@ -3,6 +3,10 @@ use Rattle.std.specs.Prelude.{ℕ, List, Bool, ◌++◌, [], codes, if◌then◌
 use Rattle.run_events_levels.specs.declared.levels.OutputOnTestFinished.{OutputOnTestFinished}
 use Rattle.std.specs.Fmt.{decimal}
 use Rattle.std.specs.Option.{option_map_or}
+use Rattle.test_report_run_notes.specs.Finish.{finish_for}
+use Rattle.test_report_run_notes.specs.Note.{FailureView, TestNoteView}
+use Rattle.test_report_run_notes.specs.declared.finish.Finish.TheVariants.{Passed}
+use Rattle.test_report_run_notes.specs.declared.note.RunEnd.{RunEnd}
 use Rattle.test_report_forms.specs.Entry.{EntryView, FlakyPassed, TestFailed, TestPassed, TestSkipped}
 use Rattle.test_report_forms.specs.Levels.{finished_output, has_line, shown_if, skipped_output}
 use Rattle.test_report_forms.specs.List.{passed_word, short_list}
@@ -15,10 +19,6 @@ use Rattle.test_report_forms.specs.Words.{failed_word, outcome_word, status_text
 use Rattle.test_report_forms.specs.declared.options.Options.{Options}
 use Rattle.test_report_forms.specs.Why.{WhyView}
 use Rattle.test_report_forms.specs.WhyLines.{why_lines}
-use Rattle.test_report_run.specs.Counted.{finish_for}
-use Rattle.test_report_run.specs.Note.{FailureView, TestNoteView}
-use Rattle.test_report_run.specs.declared.counted.Finish.TheVariants.{Passed}
-use Rattle.test_report_run.specs.declared.note.RunEnd.{RunEnd}
 
 -- the number of attempts, if there were several
 unfoldable pub attempts_note : ℕ → List ℕ

@@ -2,8 +2,8 @@
 use Rattle.std.specs.Prelude.{ℕ, List, ◌++◌, ◌==◌, ◌+◌, codes, drop, length, if◌then◌else◌}
 use Rattle.std.specs.List.{starts_with}
 use Rattle.std.specs.Option.{option_map_or}
+use Rattle.test_report_run_notes.specs.Note.{TestNoteView}
 use Rattle.test_report_forms.specs.Shown.{name_and_space, shown_name}
-use Rattle.test_report_run.specs.Note.{TestNoteView}
 
 -- the name of a test without the name of this suite and `$`, if it begins so
 abbrev pub without_suite : List ℕ → List ℕ → List ℕ

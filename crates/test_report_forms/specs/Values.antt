@@ -3,14 +3,15 @@ use Rattle.std.specs.Prelude.{ℕ, ◌==◌, ◌*◌, ◌/◌, ◌-◌, ◌++◌
 use Rattle.std.specs.Fmt.{decimal}
 use Rattle.std.specs.List.{list_any}
 use Rattle.template.specs.Template.{ItemValue, NoValues, TextValue, ValueView, Values, section, values_of}
+use Rattle.test_report_run_notes.specs.declared.note.RunEnd.{RunEnd}
 use Rattle.test_report_forms.specs.Entry.{EntryView}
+use Rattle.test_report_forms.specs.Flaky.{FlakyView}
 use Rattle.test_report_forms.specs.List.{KeyedLine}
 use Rattle.test_report_forms.specs.Model.{FailedView, ProblemView, ReportView, RowView, numbers_of_run, report_of}
 use Rattle.test_report_forms.specs.Shown.{seconds}
 use Rattle.test_report_forms.specs.Skipped.{SkippedView}
 use Rattle.test_report_forms.specs.WholeOutput.{OutputView, page_limits}
 use Rattle.test_report_forms.specs.Words.{outcome_word}
-use Rattle.test_report_run.specs.declared.note.RunEnd.{RunEnd}
 use Rattle.test_report_forms.specs.declared.numbers.Numbers.{Numbers}
 use Rattle.test_report_forms.specs.declared.options.Options.{Options}
 
@@ -148,6 +149,14 @@ skip_values t = one_text (codes "name") t.name ++ one_text (codes "reason") t.re
 abbrev pub skip_items : List SkippedView → List ValueView
 skip_items tests = items (codes "skip") skip_values tests
 
+-- the values of a test that passed after several attempts
+abbrev pub flaky_values : FlakyView → List ValueView
+flaky_values t = (one_text (codes "name") t.name ++ one_text (codes "attempts") (decimal t.attempts)) ++ time_item t.time
+
+-- the tests that passed after several attempts
+abbrev pub flaky_items : List FlakyView → List ValueView
+flaky_items tests = items (codes "test") flaky_values tests
+
 -- a number
 abbrev pub number : List ℕ → ℕ → ValueView
 number name n = TextValue name (decimal n)
@@ -164,9 +173,10 @@ run_values e =
 -- the values of a finished report
 unfoldable pub report_values : ReportView → List ValueView
 report_values r =
-    (((((run_values r.end ++ section (codes "bar") (bar (numbers_of_run r.end))) ++ section (codes "problems") (problem_items r.problems))
+    ((((((run_values r.end ++ section (codes "bar") (bar (numbers_of_run r.end))) ++ section (codes "problems") (problem_items r.problems))
     ++ section (codes "failures") (failed_items r.failed)) ++ section (codes "suites") (suite_items r.suites))
-    ++ section (codes "slowest") (slow_items r.slowest)) ++ section (codes "skips") (skip_items r.skipped)
+    ++ section (codes "slowest") (slow_items r.slowest)) ++ section (codes "skips") (skip_items r.skipped))
+    ++ section (codes "flaky_tests") (flaky_items r.flaky)
 
 -- the values of a run with these entries for a page
 abbrev pub values_of_run : Options → List EntryView → RunEnd → Values

@@ -5,12 +5,12 @@ use Rattle.std.specs.List.{after_first, position_or_len, slice_split}
 use Rattle.std.specs.Option.{option_map_or}
 use Rattle.std.specs.Str.{trim_end}
 use Rattle.template.specs.Hole.{markup}
+use Rattle.test_report_run_notes.specs.Note.{FailureView}
 use Rattle.test_report_forms.specs.Lines.{without_returns}
 use Rattle.test_report_forms.specs.Shown.{more_bytes, shown_text}
 use Rattle.test_report_forms.specs.ShownWhy.{ShownWhyView}
 use Rattle.test_report_forms.specs.declared.whole_output.OutputLimits.{OutputLimits}
 use Rattle.test_report_forms.specs.declared.whole_output.WholeOutput.{WholeOutput}
-use Rattle.test_report_run.specs.Note.{FailureView}
 
 -- the whole output of a failed test, as it is shown: how many lines it has, and its text
 pub record OutputView : Type 0 where

@@ -6,12 +6,12 @@ use Rattle.std.specs.Str.Lossy.{utf8_lossy}
 use Rattle.output_slice.specs.Extraction.{Extract, error_slice, note_line, panic_slice}
 use Rattle.test_report_forms.specs.Explanation.{ExplanationView, FoundView, IsFoundIn, explanation_in, explanation_view}
 pub use Rattle.test_report_forms.specs.Place.{PlaceView, place_view}
+use Rattle.test_report_run_notes.specs.Note.{CrashView, FailureView, HasCrashed, HasFailed, HasNoEnd, HasTimedOut, IsFlaky, KindView, TestNoteView}
 use Rattle.test_report_forms.specs.Place.{output, place_of}
 use Rattle.test_report_forms.specs.Short.{IsShort, better_reason, said_first}
 use Rattle.test_report_forms.specs.Shown.{seconds}
 use Rattle.test_report_forms.specs.Written.{ten_written}
 use Rattle.test_report_forms.specs.declared.why.Why.{Why}
-use Rattle.test_report_run.specs.Note.{CrashView, FailureView, HasCrashed, HasFailed, HasNoEnd, HasTimedOut, IsFlaky, KindView, TestNoteView}
 
 -- why a test failed: the short reason, the explanation in its output, and the place
 pub record WhyView : Type 0 where

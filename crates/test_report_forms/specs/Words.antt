@@ -7,11 +7,10 @@ use Rattle.run_events_stats.specs.declared.outcome.run_outcome.RunOutcome.TheVar
 use Rattle.test_report_events.specs.Event.{BySignal, CommandView, NotStarted, WithStatus}
 use Rattle.test_report_events.specs.declared.event.TestResult.{TestResult}
 use Rattle.test_report_events.specs.declared.event.TestResult.TheVariants as ended
+use Rattle.test_report_run_notes.specs.Note.{CargoSays, CommandFails, DisagreementView, EndsEarly, HasCrashed, HasFailed, HasNoEnd, HasNoEvent, HasTimedOut, IsDamaged, IsFlaky, KindView, SaysOther, StartsOutside, StrayEnds, StraySuiteEnds, failed_of}
+use Rattle.test_report_run_notes.specs.declared.note.RunEnd.{RunEnd}
+use Rattle.test_report_run_notes.specs.declared.note.SaidNumbers.{SaidNumbers}
 use Rattle.test_report_forms.specs.Shown.{bracket, name_and_space, shown_line, shown_name}
-use Rattle.test_report_run.specs.Note.{CargoSays, CommandFails, DisagreementView, EndsEarly, HasCrashed, HasFailed, HasNoEnd, HasNoEvent, HasTimedOut, IsDamaged, IsFlaky, KindView, SaysOther, StartsOutside, StrayEnds, StraySuiteEnds}
-use Rattle.test_report_run.specs.Suite.{failed_of}
-use Rattle.test_report_run.specs.declared.note.RunEnd.{RunEnd}
-use Rattle.test_report_run.specs.declared.note.SaidNumbers.{SaidNumbers}
 
 -- the word for a failed test
 abbrev pub failed_word : KindView → List ℕ

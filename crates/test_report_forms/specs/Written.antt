@@ -2,8 +2,8 @@
 use Rattle.std.specs.Prelude.{◌-◌, ◌||◌, ◌==◌, not, nat_eq, nat_lt, ℕ, Bool, List, codes, drop, filter, if◌then◌else◌, length, take, Option, Some, None, unwrap_or}
 use Rattle.std.specs.List.{join_with_byte, position_or_len, slice_split, starts_with}
 use Rattle.std.specs.Str.Lines.{strip_carriage_return}
+use Rattle.test_report_run_notes.specs.Texts.{is_blank}
 use Rattle.test_report_forms.specs.Lines.{first_line}
-use Rattle.test_report_run.specs.Prints.{is_blank}
 
 -- the lines of a text that are not blank
 abbrev pub written_lines : List ℕ → List (List ℕ)

@@ -1,6 +1,6 @@
 //! The form for people whose log GitHub reads, too.
 
-ghost use Rattle.std.specs.Prelude.{◌≡◌, ◌++◌, [], OnOk, string_bytes};
+ghost use Rattle.std.specs.Prelude.{◌≡◌, ◌++◌, []};
 
 use crate::entry::Entry;
 use crate::form::Form;
@@ -8,11 +8,11 @@ use crate::github::GithubForm;
 use crate::options::Options;
 use crate::text::TextForm;
 use std::alloc::{AllocError, Global};
-use test_report_run::note::RunEnd;
+use test_report_run_notes::note::RunEnd;
 
-/// The form for people with the annotations of [`GithubForm`] between its lines: the annotations of the entries that one
-/// line of the input makes known come after the texts of all these entries, and the notice after the last line. So one
-/// log is read by people and by GitHub.
+/// The form for people with the annotations of [`GithubForm`] between its lines: the annotations of the entries that
+/// become known at once come after the texts of all these entries, and the notice after the last line. So one log is
+/// read by people and by GitHub.
 #[derive(Drop)]
 pub struct AnnotatedForm {
     text: TextForm,

@@ -1,15 +1,15 @@
 //! What explains a failure that cargo or nextest reports.
 
 ghost use Rattle.std.specs.Prelude.{IfOk, option_map, string_bytes, ◌≡◌};
+ghost use Rattle.test_report_run_notes.specs.Note.{cargo_view, disagreement_view};
 ghost use Rattle.test_report_forms.specs.CargoWhy as spec;
 ghost use Rattle.test_report_forms.specs.Explanation.{IsFoundIn, found_view};
-ghost use Rattle.test_report_run.specs.Note.{cargo_view, disagreement_view};
 
 use crate::explanation::{Found, explanation_in, found_in};
 use crate::why::copied;
 use crate::written::ten_written;
 use std::alloc::{AllocError, Global};
-use test_report_run::note::{CargoReport, Disagreement};
+use test_report_run_notes::note::{CargoReport, Disagreement};
 
 /// Returns what explains a disagreement. `None` if it is no failure of cargo, or if nothing explains it.
 pub(crate) fn disagreement_why(

@@ -1,11 +1,11 @@
 //! The causes of an outcome other than failed tests: disagreements, and suites whose tests were not all run.
 
 ghost use Rattle.std.specs.Prelude.{◌≡◌, ◌++◌, IfOk, OnOk, option_map, string_bytes};
+ghost use Rattle.test_report_run_notes.specs.Note.{command_view, disagreement_view, text_view};
 ghost use Rattle.test_report_forms.specs.Entry.{entry_view};
 ghost use Rattle.test_report_forms.specs.Model as spec;
 ghost use Rattle.test_report_forms.specs.Model.{cause_of_entry, cause_view, lacks_events, problem_of, problem_view, suite_of};
 ghost use Rattle.test_report_forms.specs.Words.{command_words, disagreement_line, its_tests, not_run_line, result_word, said_numbers, said_text, key_and_verdict, verdict_word};
-ghost use Rattle.test_report_run.specs.Note.{command_view, disagreement_view, text_view};
 
 use crate::entry::Entry;
 use crate::junit_case::text_of;
@@ -14,7 +14,7 @@ use std::alloc::{AllocError, Global};
 use std::fmt::Write;
 use std::rc::Rc;
 use test_report_events::event::TestResult;
-use test_report_run::note::{CommandEnd, Disagreement, NotRun, SaidNumbers};
+use test_report_run_notes::note::{CommandEnd, Disagreement, NotRun, SaidNumbers};
 
 /// A disagreement, or a suite whose tests were not all run.
 #[derive(Drop)]

@@ -1,13 +1,13 @@
 //! Entries: what the forms take.
 
 ghost use Rattle.std.specs.Prelude.{IfOk};
+ghost use Rattle.test_report_run_notes.specs.Note.{note_view};
 ghost use Rattle.test_report_forms.specs.Entry.{IsEntryOf, entry_view};
-ghost use Rattle.test_report_run.specs.Note.{note_view};
 
 use crate::cargo_why::disagreement_why;
 use crate::why::Why;
 use std::alloc::{AllocError, Global};
-use test_report_run::note::{
+use test_report_run_notes::note::{
     Disagreement, Failure, NotRun, Note, SuiteNote, TestNote, TestOutcome,
 };
 

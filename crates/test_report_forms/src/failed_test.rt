@@ -1,13 +1,13 @@
 //! Failed tests as they are shown.
 
 ghost use Rattle.std.specs.Prelude.{◌≡◌, IfOk, false, option_map, string_bytes};
+ghost use Rattle.test_report_run_notes.specs.Note.{failure_view, test_view, text_view};
 ghost use Rattle.test_report_forms.specs.Model.{failed_view, shown_failure_of};
 ghost use Rattle.test_report_forms.specs.Shown.{shown_name, shown_text};
 ghost use Rattle.test_report_forms.specs.Shown as shown;
 ghost use Rattle.test_report_forms.specs.ShownWhy.{limited_why, shown_why_view};
 ghost use Rattle.test_report_forms.specs.Title.{title_name};
 ghost use Rattle.test_report_forms.specs.Why.{why_view};
-ghost use Rattle.test_report_run.specs.Note.{failure_view, test_view, text_view};
 
 use crate::options::Options;
 use crate::shown::{front, push_name, push_text};
@@ -18,7 +18,7 @@ use crate::whole_output::{WholeOutput, whole_output};
 use crate::why::Why;
 use std::alloc::{AllocError, Global};
 use std::rc::Rc;
-use test_report_run::note::{Failure, TestNote};
+use test_report_run_notes::note::{Failure, TestNote};
 
 /// A failed test. In its texts control characters are already escapes.
 #[derive(Drop)]

@@ -1,10 +1,10 @@
 //! The forms that are written to files, in addition to the form on standard output.
 
 ghost use Rattle.std.specs.Prelude.{◌≡◌, ◌++◌, ◌∷◌, [], List, IfOk, OnOk};
+ghost use Rattle.test_report_run_notes.specs.Note.{text_view};
+ghost use Rattle.test_report_run_notes.specs.declared.note.RunEnd.{RunEnd};
 ghost use Rattle.test_report_forms.specs.Entry.{EntryView, entry_view};
 ghost use Rattle.test_report_forms.specs.Files.{FilesKnow, FilesSay, HasTaken, text_of};
-ghost use Rattle.test_report_run.specs.Note.{text_view};
-ghost use Rattle.test_report_run.specs.declared.note.RunEnd.{RunEnd};
 ghost use Rattle.test_report_forms.specs.declared.files.FileTexts.{FileTexts};
 
 use crate::entry::Entry;
@@ -14,7 +14,7 @@ use crate::json_form::JsonForm;
 use crate::junit::JunitForm;
 use crate::markdown::MarkdownForm;
 use std::alloc::{AllocError, Global};
-use test_report_run::note::RunEnd;
+use test_report_run_notes::note::RunEnd;
 
 /// The forms that are written to files at the end of a run. Each of them may be absent.
 #[derive(Drop)]

@@ -1,7 +1,7 @@
 //! The lines of flaky tests in the list at the end of a report.
 
 ghost use Rattle.std.specs.Prelude.{length};
-ghost use Rattle.test_report_run.specs.InOrder.{IsPlaced};
+ghost use Rattle.test_report_run_notes.specs.InOrder.{IsPlaced};
 
 mod changes;
 

@@ -1,12 +1,12 @@
 //! The trait of the forms.
 
 ghost use Rattle.std.specs.Prelude.{◌≡◌, ◌++◌, ◌∷◌, [], ℕ, List, OnOk, string_bytes};
+ghost use Rattle.test_report_run_notes.specs.declared.note.RunEnd.{RunEnd};
 ghost use Rattle.test_report_forms.specs.Entry.{EntryView, entry_view};
-ghost use Rattle.test_report_run.specs.declared.note.RunEnd.{RunEnd};
 
 use crate::entry::Entry;
 use std::alloc::{AllocError, Global};
-use test_report_run::note::RunEnd;
+use test_report_run_notes::note::RunEnd;
 
 /// A form of a report. It appends the text of each entry at once, and more text at the end of the run. It keeps
 /// what it needs for the end.
@@ -14,7 +14,8 @@ pub trait Form {
     /// The text of an entry, which is written at once.
     ghost line: { Self → EntryView → List ℕ };
 
-    /// The text of an entry that is written after the texts of all entries that the same line of the input makes known.
+    /// The text of an entry that is written after the texts of all entries that become known at once: by the same line
+    /// of the input, or by the same part of its end.
     ghost line_end: { Self → EntryView → List ℕ };
 
     /// The text that is written at the end of a run, given all its entries.
@@ -23,8 +24,8 @@ pub trait Form {
     /// The form has taken these entries, in this order.
     ghost Knows: { Self → List EntryView → Type 0 };
 
-    /// Takes the next entry, and appends its text. Text that belongs after the texts of all entries of the same
-    /// line of the input goes to `after_line`. The only error is that memory runs out. After an error nothing is
+    /// Takes the next entry, and appends its text. Text that belongs after the texts of all entries that become known
+    /// at once goes to `after_line`. The only error is that memory runs out. After an error nothing is
     /// promised about the form, the text and `after_line`.
     fn on_entry(
         &mut self,

@@ -2,12 +2,12 @@
 
 ghost use Rattle.std.specs.Prelude.{◌≡◌, ◌++◌, [], OnOk, option_map, string_bytes};
 ghost use Rattle.std.specs.Option.{option_map_or};
+ghost use Rattle.test_report_run_notes.specs.Note.{failure_view, test_view};
 ghost use Rattle.test_report_forms.specs.Entry.{entry_view};
 ghost use Rattle.test_report_forms.specs.Model.{cause_of_entry, cause_view};
 ghost use Rattle.test_report_forms.specs.Github.{cause_command, column_property, data_char, error_command, failed_command, message, place_properties, properties, property, property_char, title_property, why_message};
 ghost use Rattle.test_report_forms.specs.ShownWhy.{shown_why_view};
 ghost use Rattle.test_report_forms.specs.Why.{place_view, why_view};
-ghost use Rattle.test_report_run.specs.Note.{failure_view, test_view};
 
 use crate::cause::{Cause, cause_of};
 use crate::entry::Entry;
@@ -20,7 +20,7 @@ use crate::summary::{outcome_text, push_summary};
 use crate::title::push_title;
 use crate::why::Why;
 use std::alloc::{AllocError, Global};
-use test_report_run::note::{Failure, RunEnd, TestNote};
+use test_report_run_notes::note::{Failure, RunEnd, TestNote};
 
 /// The form for the log of a workflow on GitHub: an annotation for each failed test, each disagreement and
 /// each suite whose tests were not all run, and at the end a notice with the summary. Every line is a

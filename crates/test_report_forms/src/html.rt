@@ -13,7 +13,7 @@ use crate::page_template::PAGE;
 use crate::values::report_values;
 use std::alloc::{AllocError, Global};
 use template::Value;
-use test_report_run::note::RunEnd;
+use test_report_run_notes::note::RunEnd;
 
 /// The form for a browser: one page without scripts or outside resources, written at the end.
 #[derive(Drop)]

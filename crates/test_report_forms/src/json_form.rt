@@ -1,14 +1,14 @@
 //! The form for other programs: one object of JSON, on one line.
 
-ghost use Rattle.std.specs.Prelude.{◌≡◌, ◌++◌, ◌∷◌, [], IfOk, List, OnOk, codes, map, option_map, string_bytes};
+ghost use Rattle.std.specs.Prelude.{◌≡◌, ◌++◌, [], IfOk, List, OnOk, codes, map, option_map, string_bytes};
 ghost use Rattle.json.specs.Json.{Json};
+ghost use Rattle.test_report_run_notes.specs.Note.{suite_view};
 ghost use Rattle.test_report_forms.specs.Entry.{entry_view};
 ghost use Rattle.test_report_forms.specs.Json as spec;
 ghost use Rattle.test_report_forms.specs.Json.{IsStateOf, JsonState};
 ghost use Rattle.test_report_forms.specs.JsonText as spec_text;
 ghost use Rattle.test_report_forms.specs.JsonText.{hidden, json_text};
 ghost use Rattle.test_report_forms.specs.JsonValues.{all_problems};
-ghost use Rattle.test_report_run.specs.Note.{suite_view};
 
 use crate::cause::cause_of;
 use crate::commands::is_command;
@@ -25,7 +25,7 @@ use crate::options::Options;
 use crate::skipped_test::skip_reason;
 use std::alloc::{AllocError, Global};
 use std::rc::Rc;
-use test_report_run::note::{RunEnd, SuiteNote};
+use test_report_run_notes::note::{RunEnd, SuiteNote};
 
 /// The form for other programs: one object of JSON, written at the end. It keeps each test, suite and problem as
 /// its text.

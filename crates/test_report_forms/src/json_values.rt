@@ -2,6 +2,7 @@
 
 ghost use Rattle.std.specs.Prelude.{◌≡◌, ◌++◌, IfOk, List, OnOk, map, option_map, string_bytes};
 ghost use Rattle.json.specs.Json.{Json};
+ghost use Rattle.test_report_run_notes.specs.Note.{failure_view, kind_view, suite_view, test_view};
 ghost use Rattle.test_report_forms.specs.JsonText.{HasMembers, Member, json_text};
 ghost use Rattle.test_report_forms.specs.JsonValues as spec;
 ghost use Rattle.test_report_forms.specs.Model.{cause_view};
@@ -9,7 +10,6 @@ ghost use Rattle.test_report_forms.specs.Place.{place_view};
 ghost use Rattle.test_report_forms.specs.ShownWhy.{shown_why_view};
 ghost use Rattle.test_report_forms.specs.Suites.{SuiteOf, map_cases, suite_of};
 ghost use Rattle.test_report_forms.specs.Why.{why_view};
-ghost use Rattle.test_report_run.specs.Note.{failure_view, kind_view, suite_view, test_view};
 
 use crate::cause::Cause;
 use crate::json_object::JsonObject;
@@ -24,7 +24,9 @@ use crate::title::shown_name;
 use crate::why::Why;
 use run_events_stats::stats::RunStats;
 use std::alloc::{AllocError, Global};
-use test_report_run::note::{Failure, FailureKind, RunEnd, SuiteNote, TestNote, failed_count};
+use test_report_run_notes::note::{
+    Failure, FailureKind, RunEnd, SuiteNote, TestNote, failed_count,
+};
 
 /// Returns a test that passed.
 #[tactic(auto, unfolding(crate::specs::JsonValues::passed_json))]

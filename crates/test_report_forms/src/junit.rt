@@ -25,7 +25,7 @@ use crate::options::Options;
 use std::alloc::{AllocError, Global};
 use std::rc::Rc;
 use template::Value;
-use test_report_run::note::{RunEnd, SuiteNote};
+use test_report_run_notes::note::{RunEnd, SuiteNote};
 
 /// The line of a run in which no test ran.
 const NO_TESTS: &str = "no test ran";

@@ -1,12 +1,12 @@
 //! The test cases of JUnit's XML.
 
 ghost use Rattle.std.specs.Prelude.{◌≡◌, IfOk, option_map, string_bytes};
+ghost use Rattle.test_report_run_notes.specs.Note.{failure_view, kind_view, test_view, text_view};
 ghost use Rattle.test_report_forms.specs.JunitCase as spec;
 ghost use Rattle.test_report_forms.specs.JunitCase.{case_kind_view, case_place_view, case_view};
 ghost use Rattle.test_report_forms.specs.Model.{cause_view};
 ghost use Rattle.test_report_forms.specs.Shown.{shown_name, whole_text};
 ghost use Rattle.test_report_forms.specs.Why.{place_view, why_view};
-ghost use Rattle.test_report_run.specs.Note.{failure_view, kind_view, test_view, text_view};
 
 use crate::cause::{Cause, shown_reason};
 use crate::failed_test::{FailedTest, shown_failure};
@@ -19,7 +19,7 @@ use crate::title::shown_name;
 use crate::why::Why;
 use std::alloc::{AllocError, Global};
 use std::rc::Rc;
-use test_report_run::note::{Failure, FailureKind, TestNote};
+use test_report_run_notes::note::{Failure, FailureKind, TestNote};
 
 /// The name of the run, and of the suite of causes that name no suite.
 pub(crate) const OWN_NAME: &str = "test-report";

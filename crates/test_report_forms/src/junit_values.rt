@@ -15,11 +15,11 @@
 ghost use Rattle.std.specs.Prelude.{◌≡◌, ◌++◌, ◌∷◌, [], IfOk, OnOk, codes, map, option_map, string_bytes};
 ghost use Rattle.std.specs.Fmt.{decimal};
 ghost use Rattle.template.specs.Template.{ItemValue, value_view, values_of};
+ghost use Rattle.test_report_run_notes.specs.Note.{text_view};
 ghost use Rattle.test_report_forms.specs.JunitCase.{case_kind_view, case_place_view, case_view, reason_view};
 ghost use Rattle.test_report_forms.specs.JunitSuite.{suite_view};
 ghost use Rattle.test_report_forms.specs.JunitValues as spec;
 ghost use Rattle.test_report_forms.specs.Values.{one_text};
-ghost use Rattle.test_report_run.specs.Note.{text_view};
 
 use crate::junit_case::{Case, CaseKind, CasePlace, Reason, shared_text};
 use crate::junit_suite::JunitCounts;

@@ -11,7 +11,7 @@ use run_events_levels::levels::{
 use run_events_levels::view::FinishedTest;
 use run_events_results::results::{CancelReason, ExecutionResultDescription};
 use run_events_settings::config::TestOutputDisplay;
-use test_report_run::counted::{Finish, finished_test};
+use test_report_run_notes::finish::{Finish, finished_test};
 
 /// Returns the levels of a report.
 fn levels_of(options: Options) -> StatusLevels

@@ -39,6 +39,7 @@ mod explanation;
 mod failed_test;
 pub mod files;
 mod flaky_lines;
+mod flaky_test;
 pub mod form;
 pub mod github;
 pub mod html;

@@ -1,15 +1,15 @@
 //! The list at the end of a report.
 
-ghost use Rattle.std.specs.Prelude.{◌≡◌, ◌++◌, [], OnOk, codes, map, string_bytes};
+ghost use Rattle.std.specs.Prelude.{◌≡◌, ◌++◌, [], OnOk, codes, string_bytes};
 ghost use Rattle.std.specs.List.{fold};
 ghost use Rattle.run_events_levels.specs.declared.levels.FinalStatusLevel.TheVariants as levels;
+ghost use Rattle.test_report_run_notes.specs.Note.{failure_view, outcome_view, test_view};
 ghost use Rattle.test_report_forms.specs.Entry.{TestFailed, entry_view};
 ghost use Rattle.test_report_forms.specs.Levels.{finished_output, listed_text, skipped_output};
 ghost use Rattle.test_report_forms.specs.PassedOutput.{output_lines};
 ghost use Rattle.test_report_forms.specs.List as spec;
 ghost use Rattle.test_report_forms.specs.List.{kept_flaky, kept_lines, put_falling, put_rising, text_of_lines};
 ghost use Rattle.test_report_forms.specs.Why.{why_view};
-ghost use Rattle.test_report_run.specs.Note.{failure_view, outcome_view, test_view};
 
 use crate::entry::Entry;
 use crate::flaky_lines::{FlakyLine, FlakyLines};
@@ -25,8 +25,8 @@ use crate::why::Why;
 use crate::why_lines::push_why_lines;
 use run_events_levels::levels::{FinalStatusLevel, OutputStoreFinal};
 use std::alloc::{AllocError, Global};
-use test_report_run::counted::Finish;
-use test_report_run::note::{Failure, TestNote};
+use test_report_run_notes::finish::Finish;
+use test_report_run_notes::note::{Failure, TestNote};
 
 /// The column in which the status of a test in the list ends.
 const STATUS_WIDTH: usize = 12;

@@ -10,7 +10,7 @@ use crate::markdown_values::summary_values;
 use crate::model::ReportModel;
 use crate::options::Options;
 use std::alloc::{AllocError, Global};
-use test_report_run::note::RunEnd;
+use test_report_run_notes::note::RunEnd;
 
 /// The form for the summary of a workflow on GitHub: a part of a page in Markdown, written at the end.
 #[derive(Drop)]

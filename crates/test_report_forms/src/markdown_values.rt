@@ -18,7 +18,7 @@ use crate::values::{failed_values, one_text, one_word, problem_items, run_values
 use run_events_stats::outcome::RunOutcome;
 use std::alloc::{AllocError, Global};
 use template::{Part, Value, parse_template, push_item, push_section, render};
-use test_report_run::note::RunEnd;
+use test_report_run_notes::note::RunEnd;
 
 /// The summary shows failed tests until their rows and details have this number of bytes. GitHub shows a summary of at most
 /// 1 MiB.
@@ -41,6 +41,7 @@ pub(crate) fn summary_values(
         suites: _,
         slowest: _,
         skipped: _,
+        flaky: _,
     } = model;
     let count = failed.len();
     let shown = shown_items(alloc, failed)?;

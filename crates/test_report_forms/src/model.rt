@@ -1,19 +1,21 @@
 //! The model of a finished report: what the forms that write at the end of a run show.
 
-ghost use Rattle.std.specs.Prelude.{◌≡◌, ◌++◌, ◌∷◌, [], ℕ, IfOk, List, OnOk, map, option_map, option_to_list, string_bytes};
+ghost use Rattle.std.specs.Prelude.{◌≡◌, ◌++◌, ◌∷◌, [], IfOk, List, OnOk, map, option_map, option_to_list, string_bytes};
 ghost use Rattle.std.specs.List.{fold};
+ghost use Rattle.test_report_run_notes.specs.Note.{suite_view, test_view};
 ghost use Rattle.test_report_forms.specs.Entry.{EntryView, entry_view};
+ghost use Rattle.test_report_forms.specs.Flaky.{flaky_of_entry, flaky_view};
 ghost use Rattle.test_report_forms.specs.List.{kept_lines, put_falling};
 ghost use Rattle.test_report_forms.specs.Model as spec;
 ghost use Rattle.test_report_forms.specs.Model.{IsModelOf, failed_view, problem_view, row_view};
 ghost use Rattle.test_report_forms.specs.Skipped.{skipped_of_entry, skipped_view};
 ghost use Rattle.test_report_forms.specs.WholeOutput.{page_limits, summary_limits};
 ghost use Rattle.test_report_forms.specs.declared.whole_output.OutputLimits.{OutputLimits};
-ghost use Rattle.test_report_run.specs.Note.{suite_view, test_view};
 
 use crate::cause::{Problem, cause_of};
 use crate::entry::Entry;
 use crate::failed_test::{FailedTest, shown_failure};
+use crate::flaky_test::FlakyTest;
 use crate::junit_case::shared_text;
 use crate::numbers::Numbers;
 use crate::options::Options;
@@ -25,7 +27,7 @@ use crate::whole_output::{OutputLimits, room_after};
 use run_events_stats::outcome::RunOutcome;
 use std::alloc::{AllocError, Global};
 use std::rc::Rc;
-use test_report_run::note::{SuiteNote, TestNote};
+use test_report_run_notes::note::{SuiteNote, TestNote};
 
 /// The number of slowest tests that are listed.
 const SLOWEST: usize = 10;
@@ -82,6 +84,9 @@ pub struct ReportModel {
 
     /// The skipped tests that have a reason.
     pub(crate) skipped: Vec<SkippedTest>,
+
+    /// The tests that passed after several attempts.
+    pub(crate) flaky: Vec<FlakyTest>,
 }
 
 impl ReportModel {
@@ -116,6 +121,7 @@ impl ReportModel {
             suites: Vec::new(alloc),
             slowest: Slowest::new(alloc, SLOWEST),
             skipped: Vec::new(alloc),
+            flaky: Vec::new(alloc),
         }
     }
 
@@ -138,6 +144,7 @@ impl ReportModel {
         keep_problem(alloc, &mut self.problems, entry)?;
         keep_suite(alloc, &mut self.suites, entry)?;
         keep_skipped(alloc, &mut self.skipped, entry)?;
+        keep_flaky(alloc, &mut self.flaky, entry)?;
         keep_time(alloc, &mut self.slowest, entry)
     }
 
@@ -217,6 +224,23 @@ fn keep_skipped(
     if let Entry::Skipped(test) = entry {
         if let Some(shown) = SkippedTest::of(alloc, test)? {
             skipped.push(shown)?;
+        }
+    }
+    Ok(())
+}
+
+/// Keeps the test of an entry, if it passed after several attempts.
+fn keep_flaky(
+    alloc: Global,
+    flaky: &mut Vec<FlakyTest>,
+    entry: &Entry<'_>,
+) -> Result<(), AllocError>
+    ensures { OnOk result (map flaky_view flaky.new.items ≡ map flaky_view flaky.old.items
+        ++ option_to_list (flaky_of_entry (entry_view entry.now))) }
+{
+    if let Entry::Passed(test) = entry {
+        if let Some(shown) = FlakyTest::of(alloc, test)? {
+            flaky.push(shown)?;
         }
     }
     Ok(())

@@ -4,7 +4,7 @@ use crate::entry::Entry;
 use crate::form::Form;
 use crate::shown::push_line;
 use std::alloc::{AllocError, Global};
-use test_report_run::note::RunEnd;
+use test_report_run_notes::note::RunEnd;
 
 /// The form that writes the name of each failed test, one on each line.
 #[derive(Drop)]

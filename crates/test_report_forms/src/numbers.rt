@@ -1,14 +1,14 @@
 //! How many tests of a suite or of a run passed, and how many did not.
 
 ghost use Rattle.std.specs.Prelude.{◌≡◌, IfOk, OnOk, string_bytes};
+ghost use Rattle.test_report_run_notes.specs.Note.{suite_view};
 ghost use Rattle.test_report_forms.specs.Model as spec;
 ghost use Rattle.test_report_forms.specs.Values.{with_words, words_text};
-ghost use Rattle.test_report_run.specs.Note.{suite_view};
 
 use run_events_stats::stats::RunStats;
 use std::alloc::{AllocError, Global};
 use std::fmt::Write;
-use test_report_run::note::{RunEnd, SuiteNote, failed_count};
+use test_report_run_notes::note::{RunEnd, SuiteNote, failed_count};
 
 /// How many tests passed, and how many did not.
 #[derive(Clone, Copy)]

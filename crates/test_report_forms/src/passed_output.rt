@@ -1,17 +1,16 @@
 //! The output of a test that passed.
 
 ghost use Rattle.std.specs.Prelude.{◌≡◌, ◌++◌, OnOk, option_map, string_bytes};
-ghost use Rattle.std.specs.Option.{option_map_or};
+ghost use Rattle.test_report_run_notes.specs.Note.{outcome_view};
 ghost use Rattle.test_report_forms.specs.Lines.{without_returns};
 ghost use Rattle.test_report_forms.specs.PassedOutput as spec;
-ghost use Rattle.test_report_run.specs.Note.{outcome_view};
 
 use crate::lines::without_returns;
 use crate::options::Options;
 use crate::shown::{front, push_indented};
 use crate::why_lines::push_more;
 use std::alloc::{AllocError, Global};
-use test_report_run::note::TestOutcome;
+use test_report_run_notes::note::TestOutcome;
 
 /// Returns the output of a test that passed, without the white space at its end, or `None` if it has none.
 pub(crate) fn passed_output(outcome: &TestOutcome) -> Option<&str>

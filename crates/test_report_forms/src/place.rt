@@ -4,10 +4,10 @@ ghost use Rattle.std.specs.Prelude.{◌≡◌, ◌==◌, ◌<◌, IfSome, length
 ghost use Rattle.std.specs.Char.{is_ascii_digit};
 ghost use Rattle.std.specs.List.{after_last, list_all};
 ghost use Rattle.output_slice.specs.Head.{IsHead};
+ghost use Rattle.test_report_run_notes.specs.Note.{failure_view, test_view};
 ghost use Rattle.test_report_forms.specs.Explanation.{IsFoundIn, found_view};
 ghost use Rattle.test_report_forms.specs.Place as spec;
 ghost use Rattle.test_report_forms.specs.Place.{place_view};
-ghost use Rattle.test_report_run.specs.Note.{failure_view, test_view};
 
 use crate::explanation::Found;
 use crate::lines::{first_line, without_return};
@@ -15,7 +15,7 @@ use crate::short::other_thread;
 use crate::title::shown_name;
 use crate::why::{is_crash, output_of};
 use output_slice::panic_head::HeadSpan;
-use test_report_run::note::{Failure, TestNote};
+use test_report_run_notes::note::{Failure, TestNote};
 
 /// A place in the sources.
 #[derive(Clone, Copy, Debug, PartialEq, Eq)]
@@ -151,7 +151,7 @@ fn panic_place<'a>(failure: &'a Failure, found: &Found<'a>) -> Option<Place<'a>>
         ≡ spec.panic_place (failure_view failure.now) (found_view found.now) }
 {
     let out = output_of(failure);
-    place_behind(out, cause_head(failure, found)?)
+    place_after(out, cause_head(failure, found)?)
 }
 
 /// Returns the head that names the cause: that of the first panic if the test crashed or if it is of another thread, or
@@ -171,9 +171,9 @@ fn cause_head(failure: &Failure, found: &Found<'_>) -> Option<HeadSpan>
 }
 
 /// Returns the place that the head of a panic names: what follows in its line, up to a colon at the end.
-fn place_behind(out: &str, head: HeadSpan) -> Option<Place<'_>>
+fn place_after(out: &str, head: HeadSpan) -> Option<Place<'_>>
     requires { IsHead out.now head.start head.stop }
-    ensures { option_map place_view result ≡ spec.place_behind out.now head }
+    ensures { option_map place_view result ≡ spec.place_after out.now head }
 {
     let (line, _) = first_line(&out[head.stop..]);
     parsed(without_last(line, ':')?)

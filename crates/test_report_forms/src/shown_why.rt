@@ -1,11 +1,11 @@
 //! Why a test failed, as the options say that it is shown.
 
 ghost use Rattle.std.specs.Prelude.{◌≡◌, ◌++◌, IfOk, OnOk, option_map, string_bytes};
+ghost use Rattle.test_report_run_notes.specs.Note.{failure_view, test_view};
 ghost use Rattle.test_report_forms.specs.Explanation.{excerpt_view, explanation_view};
 ghost use Rattle.test_report_forms.specs.ShownWhy as spec;
 ghost use Rattle.test_report_forms.specs.ShownWhy.{shown_why_view};
 ghost use Rattle.test_report_forms.specs.Why.{why_view};
-ghost use Rattle.test_report_run.specs.Note.{failure_view, test_view};
 
 use crate::explanation::{Excerpt, Explanation, excerpt_if_any, excerpt_of, short_excerpt};
 use crate::lines::joined;
@@ -15,7 +15,7 @@ use crate::why::{Why, is_crash, output_of, parts_of};
 use crate::written::written_count;
 use std::alloc::{AllocError, Global};
 use std::fmt::Write;
-use test_report_run::note::{Failure, TestNote};
+use test_report_run_notes::note::{Failure, TestNote};
 
 /// Why a test failed, before the limit.
 #[derive(Drop)]

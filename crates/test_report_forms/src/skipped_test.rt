@@ -1,15 +1,15 @@
 //! Skipped tests that have a reason, as they are shown.
 
 ghost use Rattle.std.specs.Prelude.{◌≡◌, IfOk, option_map};
+ghost use Rattle.test_report_run_notes.specs.Note.{outcome_view, test_view};
 ghost use Rattle.test_report_forms.specs.Skipped as spec;
 ghost use Rattle.test_report_forms.specs.Skipped.{skipped_view};
-ghost use Rattle.test_report_run.specs.Note.{outcome_view, test_view};
 
 use crate::junit_case::text_of;
 use crate::shown::shown_whole;
 use crate::title::push_title;
 use std::alloc::{AllocError, Global};
-use test_report_run::note::{TestNote, TestOutcome};
+use test_report_run_notes::note::{TestNote, TestOutcome};
 
 /// A skipped test that has a reason. In its texts control characters are already escapes.
 #[derive(Drop)]

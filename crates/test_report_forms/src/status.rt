@@ -1,14 +1,14 @@
 //! The words for the results of tests, and their colours.
 
 ghost use Rattle.std.specs.Prelude.{◌≡◌, ◌++◌, IfOk, OnOk, string_bytes};
+ghost use Rattle.test_report_run_notes.specs.Note.{kind_view};
 ghost use Rattle.test_report_forms.specs.List.{listed_word, passed_word};
 ghost use Rattle.test_report_forms.specs.Words as spec;
 ghost use Rattle.test_report_forms.specs.Words.{failed_word, status_text};
-ghost use Rattle.test_report_run.specs.Note.{kind_view};
 
 use crate::options::Options;
 use std::alloc::{AllocError, Global};
-use test_report_run::note::FailureKind;
+use test_report_run_notes::note::FailureKind;
 
 /// Returns the word for a failed test.
 pub(crate) fn failed_status(kind: &FailureKind) -> &'static str

@@ -7,7 +7,7 @@ use crate::shown::push_bracket;
 use run_events_stats::outcome::RunOutcome;
 use std::alloc::AllocError;
 use std::fmt::Write;
-use test_report_run::note::{RunEnd, failed_count};
+use test_report_run_notes::note::{RunEnd, failed_count};
 
 /// Returns the word for an outcome.
 pub(crate) fn outcome_text(outcome: RunOutcome) -> &'static str

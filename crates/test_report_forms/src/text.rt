@@ -2,11 +2,11 @@
 
 ghost use Rattle.std.specs.Prelude.{◌≡◌, ◌++◌, [], OnOk, string_bytes};
 ghost use Rattle.std.specs.Option.{option_map_or};
+ghost use Rattle.test_report_run_notes.specs.Note.{failure_view, test_view};
 ghost use Rattle.test_report_forms.specs.Entry.{entry_view};
 ghost use Rattle.test_report_forms.specs.Model.{cause_of_entry, cause_view};
 ghost use Rattle.test_report_forms.specs.Text as spec;
 ghost use Rattle.test_report_forms.specs.Why.{why_view};
-ghost use Rattle.test_report_run.specs.Note.{failure_view, test_view};
 
 use crate::cause::{Cause, cause_of};
 use crate::entry::Entry;
@@ -24,8 +24,8 @@ use crate::why::Why;
 use crate::why_lines::push_why_lines;
 use std::alloc::{AllocError, Global};
 use std::fmt::Write;
-use test_report_run::counted::Finish;
-use test_report_run::note::{Failure, RunEnd, TestNote};
+use test_report_run_notes::finish::Finish;
+use test_report_run_notes::note::{Failure, RunEnd, TestNote};
 
 /// The number of spaces before each line of why a test failed.
 const WHY_MARGIN: usize = 4;

@@ -1,17 +1,17 @@
 //! Why a test failed, as the form for people shows it.
 
 ghost use Rattle.std.specs.Prelude.{◌≡◌, IfOk};
+ghost use Rattle.test_report_run_notes.specs.Note.{failure_view, kind_view, test_view};
 ghost use Rattle.test_report_forms.specs.ShownWhy as spec;
 ghost use Rattle.test_report_forms.specs.ShownWhy.{shown_why_view};
 ghost use Rattle.test_report_forms.specs.Why.{why_view};
-ghost use Rattle.test_report_run.specs.Note.{failure_view, kind_view, test_view};
 
 use crate::lines::joined;
 use crate::options::Options;
 use crate::shown_why::{ShownWhy, shown_why};
 use crate::why::{Why, parts_of};
 use std::alloc::{AllocError, Global};
-use test_report_run::note::{Failure, FailureKind, TestNote};
+use test_report_run_notes::note::{Failure, FailureKind, TestNote};
 
 /// Returns why a test failed, as the form for people shows it. If several tests of a suite crashed, only the first has the
 /// explanation.

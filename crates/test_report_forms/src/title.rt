@@ -1,13 +1,13 @@
 //! The name of a test, as people read it.
 
 ghost use Rattle.std.specs.Prelude.{◌≡◌, ◌++◌, OnOk, string_bytes};
+ghost use Rattle.test_report_run_notes.specs.Note.{test_view};
 ghost use Rattle.test_report_forms.specs.Title.{title, title_name};
-ghost use Rattle.test_report_run.specs.Note.{test_view};
 
 use crate::junit_case::shared_text;
 use crate::shown::{push_name, push_name_and_space};
 use std::alloc::AllocError;
-use test_report_run::note::TestNote;
+use test_report_run_notes::note::TestNote;
 
 /// Returns the name of a test, without the name of its suite and `$` at the front.
 pub(crate) fn shown_name(test: &TestNote) -> &str

@@ -14,23 +14,26 @@
 //! | `suites` | a `suite` with `name`, `words`, `bar` (as above) and `time` |
 //! | `slowest` | a `slow` test with `name`, `share` (of the longest time, in hundredths) and `seconds` |
 //! | `skips` | a `skip` with `name` and `reason`: a skipped test that has a reason |
+//! | `flaky_tests` | a `test` with `name`, `attempts` and `time`: one that passed after several attempts |
 //!
 //! A `note` has `attempts` with a `count`, if there were several, and a `time`. A `time` has `seconds`. If a `line`, a
 //! `short`, or the `name` of a failed test or of its suite has an `@`, there is an item without values beside it:
 //! `line_code`, `short_code` or `name_code`.
 
-ghost use Rattle.std.specs.Prelude.{◌≡◌, ◌==◌, ◌++◌, ◌∷◌, [], IfOk, OnOk, if◌then◌else◌, map, option_map, string_bytes};
+ghost use Rattle.std.specs.Prelude.{◌≡◌, ◌==◌, ◌++◌, ◌∷◌, [], IfOk, OnOk, codes, if◌then◌else◌, map, option_map, string_bytes};
 ghost use Rattle.std.specs.List.{list_any};
-ghost use Rattle.template.specs.Template.{ItemValue, NoValues, value_view};
+ghost use Rattle.template.specs.Template.{ItemValue, NoValues, section, value_view};
+ghost use Rattle.test_report_run_notes.specs.Note.{text_view};
+ghost use Rattle.test_report_forms.specs.Flaky.{flaky_view};
 ghost use Rattle.test_report_forms.specs.List.{kept_lines, slow_line_view};
 ghost use Rattle.test_report_forms.specs.Model.{all_problems, failed_view, no_tests_problem, problem_view, report_view, row_view};
 ghost use Rattle.test_report_forms.specs.Skipped.{skipped_view};
 ghost use Rattle.test_report_forms.specs.Values as spec;
 ghost use Rattle.test_report_forms.specs.WholeOutput.{output_view};
-ghost use Rattle.test_report_run.specs.Note.{text_view};
 
 use crate::cause::Problem;
 use crate::failed_test::FailedTest;
+use crate::flaky_test::FlakyTest;
 use crate::model::{ReportModel, SuiteRow, no_tests_ran};
 use crate::numbers::Numbers;
 use crate::shown::seconds_text;
@@ -41,7 +44,7 @@ use crate::whole_output::WholeOutput;
 use run_events_stats::outcome::RunOutcome;
 use std::alloc::{AllocError, Global};
 use template::{Value, push_item, push_section, push_text};
-use test_report_run::note::{RunEnd, failed_count};
+use test_report_run_notes::note::{RunEnd, failed_count};
 
 /// Returns the values of a finished report. The only error is that memory runs out.
 #[tactic(auto, unfolding(crate::specs::Values::report_values))]
@@ -61,6 +64,7 @@ pub fn report_values(
         suites,
         slowest,
         skipped,
+        flaky,
     } = model;
     let mut values = run_values(alloc, end)?;
     push_section(&mut values, "bar", bar(alloc, Numbers::of_run(end))?)?;
@@ -71,9 +75,26 @@ pub fn report_values(
     )?;
     push_section(&mut values, "failures", failed_items(alloc, failed)?)?;
     push_section(&mut values, "suites", suite_items(alloc, suites)?)?;
-    push_section(&mut values, "slowest", slow_items(alloc, slowest)?)?;
-    push_section(&mut values, "skips", skip_items(alloc, skipped)?)?;
+    push_other_tests(alloc, &mut values, slowest, skipped, flaky)?;
     Ok(values)
+}
+
+/// Adds the slowest tests, the skipped tests that have a reason, and the tests that passed after several attempts.
+fn push_other_tests(
+    alloc: Global,
+    values: &mut Vec<Value>,
+    slowest: Slowest,
+    skipped: Vec<SkippedTest>,
+    flaky: Vec<FlakyTest>,
+) -> Result<(), AllocError>
+    ensures { OnOk result (map value_view values.new.items
+        ≡ ((map value_view values.old.items ++ section (codes "slowest") (spec.slow_items (kept_lines slowest)))
+        ++ section (codes "skips") (spec.skip_items (map skipped_view skipped.items)))
+        ++ section (codes "flaky_tests") (spec.flaky_items (map flaky_view flaky.items))) }
+{
+    push_section(values, "slowest", slow_items(alloc, slowest)?)?;
+    push_section(values, "skips", skip_items(alloc, skipped)?)?;
+    push_section(values, "flaky_tests", flaky_items(alloc, flaky)?)
 }
 
 /// Returns values with one text.
@@ -453,6 +474,32 @@ fn skip_items(alloc: Global, tests: Vec<SkippedTest>) -> Result<Vec<Value>, Allo
     let mut items = Vec::new(alloc);
     for test in tests {
         push_item(&mut items, "skip", skip_values(alloc, test)?)?;
+    }
+    Ok(items)
+}
+
+/// Returns the values of a test that passed after several attempts.
+fn flaky_values(alloc: Global, test: FlakyTest) -> Result<Vec<Value>, AllocError>
+    ensures { IfOk result (λ v. map value_view v.items ≡ spec.flaky_values (flaky_view test)) }
+{
+    let FlakyTest {
+        name,
+        attempts,
+        time,
+    } = test;
+    let mut values = one_text(alloc, "name", name)?;
+    push_text(&mut values, "attempts", format!(in alloc; "{attempts}")?)?;
+    push_time(alloc, &mut values, time)?;
+    Ok(values)
+}
+
+/// Returns the tests that passed after several attempts.
+fn flaky_items(alloc: Global, tests: Vec<FlakyTest>) -> Result<Vec<Value>, AllocError>
+    ensures { IfOk result (λ v. map value_view v.items ≡ spec.flaky_items (map flaky_view tests.items)) }
+{
+    let mut items = Vec::new(alloc);
+    for test in tests {
+        push_item(&mut items, "test", flaky_values(alloc, test)?)?;
     }
     Ok(items)
 }

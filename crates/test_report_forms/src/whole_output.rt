@@ -2,10 +2,10 @@
 
 ghost use Rattle.std.specs.Prelude.{◌≡◌, ◌≤◌, ◌-◌, ◌++◌, IfOk, OnOk, false, length, option_map, string_bytes};
 ghost use Rattle.template.specs.Hole.{markup, markup_byte};
+ghost use Rattle.test_report_run_notes.specs.Note.{failure_view};
 ghost use Rattle.test_report_forms.specs.ShownWhy.{shown_why_view};
 ghost use Rattle.test_report_forms.specs.WholeOutput as spec;
 ghost use Rattle.test_report_forms.specs.WholeOutput.{output_view};
-ghost use Rattle.test_report_run.specs.Note.{failure_view};
 
 use crate::lines::{first_line, without_returns};
 use crate::shown::{front, push_text};
@@ -13,7 +13,7 @@ use crate::shown_why::ShownWhy;
 use crate::why::stdout_of;
 use std::alloc::{AllocError, Global};
 use std::fmt::Write;
-use test_report_run::note::Failure;
+use test_report_run_notes::note::Failure;
 
 /// How much of the outputs of failed tests a report has.
 #[derive(Clone, Copy)]

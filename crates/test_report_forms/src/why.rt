@@ -1,13 +1,13 @@
 //! Why a test failed.
 
-ghost use Rattle.std.specs.Prelude.{[], ◌≡◌, ◌++◌, ℕ, IfOk, List, OnOk, map, option_map, option_to_list, string_bytes, unwrap_or};
+ghost use Rattle.std.specs.Prelude.{[], ◌≡◌, ◌++◌, IfOk, OnOk, map, option_map, option_to_list, string_bytes, unwrap_or};
 ghost use Rattle.std.specs.Str.Lossy.{utf8_lossy};
 ghost use Rattle.output_slice.specs.Shown.{extract_of};
+ghost use Rattle.test_report_run_notes.specs.Note.{crash_view, failure_view, kind_view, test_view, text_view};
 ghost use Rattle.test_report_forms.specs.Explanation.{IsFoundIn, found_view};
 ghost use Rattle.test_report_forms.specs.Place.{is_crash, output};
 ghost use Rattle.test_report_forms.specs.Why as spec;
 ghost use Rattle.test_report_forms.specs.Why.{why_view};
-ghost use Rattle.test_report_run.specs.Note.{crash_view, failure_view, kind_view, test_view, text_view};
 
 use crate::explanation::{Explanation, Found, explanation_in, found_in};
 use crate::place::{Place, place_of};
@@ -17,7 +17,7 @@ use crate::written::ten_written;
 use output_slice::subslice::TestOutputErrorSlice;
 use std::alloc::{AllocError, Global};
 use std::fmt::Write;
-use test_report_run::note::{Crash, Failure, FailureKind, TestNote};
+use test_report_run_notes::note::{Crash, Failure, FailureKind, TestNote};
 
 /// Why a test failed.
 #[derive(Drop)]

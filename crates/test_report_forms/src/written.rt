@@ -1,9 +1,9 @@
 //! The lines of a text that are not blank.
 
-ghost use Rattle.std.specs.Prelude.{◌≡◌, IfOk, drop, length, option_map, string_bytes, take};
+ghost use Rattle.std.specs.Prelude.{◌≡◌, IfOk, drop, option_map, string_bytes, take};
 ghost use Rattle.std.specs.List.{join_with_byte};
+ghost use Rattle.test_report_run_notes.specs.Texts.{is_blank};
 ghost use Rattle.test_report_forms.specs.Written as spec;
-ghost use Rattle.test_report_run.specs.Prints.{is_blank};
 
 use crate::lines::{first_line, push_part, without_return};
 use std::alloc::{AllocError, Global};

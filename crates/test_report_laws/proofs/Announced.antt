@@ -7,6 +7,8 @@ use Rattle.std.proofs.lemmas.List.Sums.{sum_by-append, sum_by-cons, sum_by-remov
 use Rattle.run_events_stats.specs.declared.outcome.RunFailureStep.TheVariants as step
 use Rattle.run_events_stats.specs.declared.outcome.run_outcome.RunOutcome.TheVariants as outcome
 use Rattle.test_report_events.specs.Event.{EventView, SuiteEndView, SuiteStarts, SuiteEnds}
+use Rattle.test_report_run_notes.specs.Note.{NoteView}
+use Rattle.test_report_run_notes.specs.declared.note.RunEnd.{RunEnd}
 use Rattle.test_report_laws.proofs.Books.{IsIn, position-in}
 use Rattle.test_report_laws.proofs.CargoReports.{known-at, only-told, ready}
 use Rattle.test_report_laws.proofs.Counters.{early-suite, last-suite, of_suite, sum-of}
@@ -16,7 +18,6 @@ use Rattle.test_report_laws.proofs.OverRuns.{over-run}
 use Rattle.test_report_laws.proofs.Tallies.{run-sums}
 use Rattle.test_report_laws.proofs.Weights.{keeps-line, ready-suites, weigh, weight_of}
 use Rattle.test_report_run.specs.Running.{RunningView}
-use Rattle.test_report_run.specs.Note.{NoteView}
 use Rattle.test_report_run.specs.Others.{OthersView}
 use Rattle.test_report_run.specs.Over.{early_notes, early_state, explained_of, last_notes, last_state, rest_of}
 use Rattle.test_report_run.specs.Run.{RunState, Step, after, ended_at, ended_early, file_notes, heard, learned, tests_in, notes_at, open_suite, opened, run_start, settled_at, started_again, step, stray_suite_notes, suite_at, with_suite_at, without_tests}
@@ -25,7 +26,6 @@ use Rattle.test_report_laws.specs.Status.{AnnouncedAreCounted, announced_by}
 use Rattle.test_report_run.specs.Suite.{SuiteState, cancelled_by, has_key, joined_by, outside_start, suite_start, with_line}
 use Rattle.test_report_laws.specs.Whole.{all_notes, run_after_files}
 use Rattle.test_report_laws.proofs.Types.{Explanation, Said}
-use Rattle.test_report_run.specs.declared.note.RunEnd.{RunEnd}
 
 -- how many tests an open suite announces
 abbrev announcing : Option ℕ → Said → Option ℕ → ℕ

@@ -12,13 +12,14 @@ use Rattle.run_events_stats.specs.declared.stats.RunStats.{RunStats}
 use Rattle.test_report_events.specs.Event.{EventView, SuiteEndView, TestEndView, SuiteStarts, SuiteEnds, TestStarts, TestEnds, TestIsSlow, OtherLine, HeadingLine, CargoFails, Prints, DamagedLine, CommandStarts, Cancels, CommandOver}
 use Rattle.test_report_events.specs.declared.event.TestResult.{TestResult}
 use Rattle.test_report_events.specs.declared.event.TestResult.TheVariants.{Ok, Failed, Ignored}
+use Rattle.test_report_run_notes.specs.Note.{Disagrees, DisagreementView, IsDamaged, NoteView, StrayEnds, StraySuiteEnds}
+use Rattle.test_report_run_notes.specs.declared.note.RunEnd.{RunEnd}
 use Rattle.test_report_laws.proofs.CargoReports.{OnlyReports, only-cargo, only-settled_at, only-told, reports-none}
 use Rattle.test_report_laws.proofs.EndSums.{last_by}
 use Rattle.test_report_laws.proofs.FileEnds.{reported_run, suites-alone}
 use Rattle.test_report_laws.proofs.OverRuns.{over-run, up-to-line}
 use Rattle.test_report_laws.proofs.Sums.{sum-if-none}
 use Rattle.test_report_run.specs.Ended.{after_end, end_notes}
-use Rattle.test_report_run.specs.Note.{Disagrees, DisagreementView, IsDamaged, NoteView, StrayEnds, StraySuiteEnds}
 use Rattle.test_report_run.specs.Others.{OthersView, after_failure}
 use Rattle.test_report_run.specs.Over.{early_notes, explained_of, last_notes}
 use Rattle.test_report_run.specs.Prints.{cut}
@@ -29,7 +30,6 @@ use Rattle.test_report_run.specs.Suite.{FlakyView, OverView, SuiteState, cancell
 use Rattle.test_report_laws.proofs.Types.{Explanation}
 use Rattle.test_report_run.specs.Totals.{no_suites}
 use Rattle.test_report_laws.specs.Whole.{all_notes, notes_of, run_after, run_after_files}
-use Rattle.test_report_run.specs.declared.note.RunEnd.{RunEnd}
 
 -- what a suite keeps of its tests
 pub record Kept : Type 0 where

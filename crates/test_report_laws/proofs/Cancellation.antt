@@ -12,6 +12,10 @@ use Rattle.run_events_levels.specs.declared.levels.StatusLevel.TheVariants as le
 use Rattle.run_events_results.specs.declared.results.CancelReason.{CancelReason}
 use Rattle.run_events_results.specs.declared.results.ExecutionResultDescription.TheVariants as described
 use Rattle.run_events_settings.specs.declared.config.TestOutputDisplay.TheVariants as display
+use Rattle.test_report_run_notes.specs.Finish.{finish_for}
+use Rattle.test_report_run_notes.specs.Note.{FailureView, TestNoteView}
+use Rattle.test_report_run_notes.specs.declared.finish.Finish.TheVariants as finish
+use Rattle.test_report_run_notes.specs.declared.finish.Finish.{Finish}
 use Rattle.test_report_forms.specs.Entry.{EntryView, FlakyPassed, LinesDisagree, SuiteNotRun, SuiteOver, TestFailed, TestPassed, TestSkipped}
 use Rattle.test_report_forms.specs.Levels.{finished_output, levels_of, listed_text, shown_if, skipped_output}
 use Rattle.test_report_forms.specs.List.{ended_line, failed_line, item, list_line, listed_word, passed_word}
@@ -23,10 +27,6 @@ use Rattle.test_report_forms.specs.Why.{WhyView}
 use Rattle.test_report_forms.specs.WhyLines.{why_lines}
 use Rattle.test_report_forms.specs.Words.{failed_word}
 use Rattle.test_report_forms.specs.declared.options.Options.{Options}
-use Rattle.test_report_run.specs.Counted.{finish_for}
-use Rattle.test_report_run.specs.Note.{FailureView, TestNoteView}
-use Rattle.test_report_run.specs.declared.counted.Finish.{Finish}
-use Rattle.test_report_run.specs.declared.counted.Finish.TheVariants as finish
 use Rattle.test_report_laws.specs.Cancellation.{CancelledListsNoMore, CancelledShowsNoMore, IsBeginning, known_under}
 use Rattle.test_report_laws.proofs.Visibility.{asked}
 

@@ -8,6 +8,7 @@ use Rattle.std.proofs.lemmas.List.Sums.{sum_by-append}
 use Rattle.test_report_events.specs.Event.{CargoFails, CommandOver, CommandStarts, Cancels, DamagedLine, EventView, HeadingLine, Prints}
 use Rattle.test_report_events.specs.declared.event.CargoFailure.{CargoFailure}
 use Rattle.test_report_events.specs.declared.event.CargoFailure.TheVariants.{Build, Tests, Run}
+use Rattle.test_report_run_notes.specs.Note.{CargoSays, CargoView, Disagrees, NoteView}
 use Rattle.test_report_laws.proofs.Aside.{aside-early, aside-told}
 use Rattle.test_report_laws.proofs.CargoReports.{if_some, none-reported, only-settled_at, ready, whole}
 use Rattle.test_report_laws.proofs.CauseCounts.{Bound, bound-after, bound-ready, held-known}
@@ -18,7 +19,6 @@ use Rattle.test_report_laws.proofs.RunCauses.{causes-of, weight}
 use Rattle.test_report_laws.specs.Run.{CargoFailureShows}
 use Rattle.test_report_laws.specs.Whole.{IsLineOf, all_notes, notes_of, run_after, run_after_files, run_at_end}
 use Rattle.test_report_run.specs.Events.{is_after_report, is_event}
-use Rattle.test_report_run.specs.Note.{CargoSays, CargoView, Disagrees, NoteView}
 use Rattle.test_report_run.specs.Others.{after_failure}
 use Rattle.test_report_run.specs.Suite.{SuiteState}
 use Rattle.test_report_run.specs.Run.{RunState, Step, after, after_file, cargo_fails, disagrees, file_notes, held_told, is_cause, is_explained, notes_at, report_told, run_start, settled, settled_at, step, told, with_report}

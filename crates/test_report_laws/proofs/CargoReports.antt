@@ -8,9 +8,9 @@ use Rattle.std.proofs.lemmas.List.{length-append, length-map, map-append}
 use Rattle.std.proofs.lemmas.List.Sums.{sum_by-append}
 use Rattle.test_report_events.specs.Event.{EventView}
 use Rattle.test_report_events.specs.declared.event.CargoFailure.{CargoFailure}
+use Rattle.test_report_run_notes.specs.Note.{CargoSays, CargoView, Disagrees, NoteView, ended_well}
 use Rattle.test_report_laws.proofs.Sums.{sum-map, sum-none, sum-ones}
 use Rattle.test_report_run.specs.Events.{is_after_report, is_event}
-use Rattle.test_report_run.specs.Note.{CargoSays, CargoView, Disagrees, NoteView, ended_well}
 use Rattle.test_report_run.specs.Others.{after_failure, last_cause}
 use Rattle.test_report_run.specs.Run.{RunState, Step, at_end, cargo_fails, disagrees, held_reports, held_told, notes_at, report_told, reports_told, settled, settled_at, step, told, with_report}
 

@@ -5,6 +5,7 @@ use Rattle.std.specs.Prelude.{◌-◌}
 use Rattle.std.proofs.lemmas.Bool.{cond_both}
 use Rattle.std.proofs.lemmas.List.Sums.{sum_by-append, sum_by-le-sum_by}
 use Rattle.test_report_events.specs.Event.{CargoFails, CommandOver, CommandStarts, Cancels, DamagedLine, EventView, HeadingLine, Prints}
+use Rattle.test_report_run_notes.specs.Note.{CargoView, Disagrees, NoteView, TestIs, ended_well, is_new_disagreement}
 use Rattle.test_report_laws.proofs.Aside.{aside-early, aside-told}
 use Rattle.test_report_laws.proofs.CargoReports.{Counted, counted-cargo, counted-settled_at, counted-told, if_some, none-reported, only-settled_at, only-told, ready, report_notes, reports-none, waiting}
 use Rattle.test_report_laws.proofs.FileEnds.{counted_run, end-parts, reported_run, suites_over}
@@ -12,7 +13,6 @@ use Rattle.test_report_laws.proofs.OverRuns.{up-to-line}
 use Rattle.test_report_laws.proofs.RunCauses.{weight}
 use Rattle.test_report_laws.proofs.Sums.{one-most}
 use Rattle.test_report_laws.specs.Whole.{all_notes, notes_of, run_after, run_after_files}
-use Rattle.test_report_run.specs.Note.{CargoView, Disagrees, NoteView, TestIs, ended_well, is_new_disagreement}
 use Rattle.test_report_run.specs.Run.{RunState, Step, after, after_file, command_notes, file_notes, held_reports, held_told, is_cause, is_new_cause, no_event_notes, notes_at, reports_told, run_start, settled, settled_at, step, told}
 
 -- a note that counts when it becomes known

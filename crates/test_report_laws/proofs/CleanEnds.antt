@@ -4,6 +4,7 @@ use Rattle.std.specs.Option.{option_map_or}
 use Rattle.std.specs.Prelude.{◌-◌, Contains, IfSome, if◌then◌else◌, max}
 use Rattle.std.proofs.lemmas.List.Sums.{get_or-le-sum_by}
 use Rattle.std.proofs.lemmas.Option.{IfSome_then}
+use Rattle.test_report_run_notes.specs.Note.{HasNoEnd, SuiteIs, SuiteNoteView}
 use Rattle.test_report_laws.proofs.Counters.{last-suite, of_suite, of_test}
 use Rattle.test_report_laws.proofs.EndSums as ends
 use Rattle.test_report_laws.proofs.EndSums.{last_by}
@@ -11,7 +12,6 @@ use Rattle.test_report_laws.proofs.Sums.{sum-ones}
 use Rattle.test_report_laws.proofs.Tallies.{count-of, failed_weight, same-not_run, skipped-last, skipped_weight}
 use Rattle.test_report_laws.specs.Run.{CleanEndIsWhole, failed_in, was_skipped}
 use Rattle.test_report_run.specs.Running.{RunningView}
-use Rattle.test_report_run.specs.Note.{HasNoEnd, SuiteIs, SuiteNoteView}
 use Rattle.test_report_run.specs.Over.{explained_of, failed_note, initial_of, last_state, lost, rest_of}
 use Rattle.test_report_run.specs.Run.{has_failed}
 use Rattle.test_report_run.specs.Suite.{SuiteState}

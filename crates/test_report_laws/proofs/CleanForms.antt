@@ -4,6 +4,8 @@ use Rattle.std.proofs.lemmas.List.Elements.{All-head, All-tail}
 use Rattle.std.specs.List.{All, flat_map}
 use Rattle.template.proofs.Controls.{Clean, also, clean-char, clean-chars, clean-decimal, clean-if, nothing, word}
 use Rattle.template.specs.Shown.{is_escaped}
+use Rattle.test_report_run_notes.specs.Note.{FailureView, NoteView, TestNoteView}
+use Rattle.test_report_run_notes.specs.declared.note.RunEnd.{RunEnd}
 use Rattle.test_report_laws.proofs.CleanLines.{clean, clean-line, clean-number, clean-text, line-alone}
 use Rattle.test_report_laws.proofs.CleanWords.{clean-disagreement, clean-not_run, clean-outcome, clean-summary, clean-title}
 use Rattle.test_report_laws.proofs.Numerals.{HasNumbers, IsColumn, IsNumbered, entry-numbers}
@@ -14,8 +16,6 @@ use Rattle.test_report_forms.specs.Shown.{front, limited, more_bytes, more_note}
 use Rattle.test_report_forms.specs.Why.{WhyView}
 use Rattle.test_report_forms.specs.Words.{disagreement_line}
 use Rattle.test_report_laws.specs.Forms.{GithubHasNoControls, NamesAreLines}
-use Rattle.test_report_run.specs.Note.{FailureView, NoteView, TestNoteView}
-use Rattle.test_report_run.specs.declared.note.RunEnd.{RunEnd}
 use Rattle.test_report_forms.specs.ShownWhy.{ShownWhyView, hidden_note, limited_why, shown_why}
 use Rattle.test_report_forms.specs.declared.options.Options.{Options}
 

@@ -11,6 +11,10 @@ use Rattle.run_events_levels.specs.declared.levels.FinalStatusLevel.TheVariants 
 use Rattle.run_events_levels.specs.declared.levels.OutputOnTestFinished.{OutputOnTestFinished}
 use Rattle.run_events_levels.specs.declared.levels.OutputStoreFinal.{OutputStoreFinal}
 use Rattle.run_events_levels.specs.declared.levels.OutputStoreFinal.TheVariants as store
+use Rattle.test_report_run_notes.specs.Finish.{finish_for}
+use Rattle.test_report_run_notes.specs.Note.{TestNoteView}
+use Rattle.test_report_run_notes.specs.declared.finish.Finish.TheVariants.{Passed}
+use Rattle.test_report_run_notes.specs.declared.note.RunEnd.{RunEnd}
 use Rattle.test_report_forms.specs.Entry.{EntryView, FlakyPassed, LinesDisagree, SuiteNotRun, SuiteOver, TestFailed, TestPassed, TestSkipped}
 use Rattle.test_report_forms.specs.Levels.{finished_output, has_line, listed_text, shown_if, skipped_output}
 use Rattle.test_report_forms.specs.List.{KeyedLine, ended_before, ended_line, failed_line, final_level_of, flaky_lines, flaky_of, item, item_at, list_line, part_at, listed_word, passed_word, put_falling, put_rising, short_list, slow_line, slow_lines, slow_of, text_of_lines, timed}
@@ -28,10 +32,6 @@ use Rattle.test_report_laws.proofs.KeyedLines.{Alike, each-alike, falling-alike,
 use Rattle.test_report_laws.specs.Colours.{AreParts, IsColoured, Other, Part, Sequence, TextIsColoured, kept, sequences, text_of_run, without_color, written}
 use Rattle.template.specs.Clean.{HasNoControls}
 use Rattle.test_report_laws.specs.Forms.{TextHasNoControls}
-use Rattle.test_report_run.specs.Counted.{finish_for}
-use Rattle.test_report_run.specs.Note.{TestNoteView}
-use Rattle.test_report_run.specs.declared.counted.Finish.TheVariants.{Passed}
-use Rattle.test_report_run.specs.declared.note.RunEnd.{RunEnd}
 use Rattle.test_report_forms.specs.ShownWhy.{ShownWhyView, text_why}
 
 -- parts of texts

@@ -7,6 +7,8 @@ use Rattle.std.specs.Char.{encode_utf8, is_ascii_digit}
 use Rattle.std.specs.List.{All, Contains, flat_map, join_with_byte, list_all, slice_split}
 use Rattle.std.specs.Str.{chars}
 use Rattle.template.proofs.Lacks.{Lacks, both, lacks-flat_map, lacks-word, none, one-char, visible}
+use Rattle.test_report_run_notes.specs.Note.{FailureView, NoteView, TestNoteView}
+use Rattle.test_report_run_notes.specs.declared.note.RunEnd.{RunEnd}
 use Rattle.test_report_forms.specs.Entry.{EntryView, FlakyPassed, IsEntryOf, LinesDisagree, SuiteNotRun, SuiteOver, TestFailed, TestPassed, TestSkipped}
 use Rattle.test_report_forms.specs.Github.{cause_message, data_char, error_command, failed_command, github_last, github_line, message, named_why, place_properties, properties, column_property, property, property_char, title_property, why_message}
 use Rattle.test_report_forms.specs.Place.{PlaceView}
@@ -21,8 +23,6 @@ use Rattle.test_report_laws.proofs.Numerals.{HasNumbers, IsColumn, IsNumber, IsN
 use Rattle.test_report_laws.specs.Commands.{IsCommand, IsProperty, OnlyCommands, ends_value, command_names, is_line_end}
 use Rattle.test_report_laws.specs.Forms.{is_unseen}
 use Rattle.test_report_laws.specs.Lines.{Block, GithubNamesCauses, IsInLine, github_block, notice}
-use Rattle.test_report_run.specs.Note.{FailureView, NoteView, TestNoteView}
-use Rattle.test_report_run.specs.declared.note.RunEnd.{RunEnd}
 use Rattle.test_report_forms.specs.ShownWhy.{shown_why}
 use Rattle.test_report_forms.specs.declared.options.Options.{Options}
 

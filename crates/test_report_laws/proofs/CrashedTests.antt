@@ -7,6 +7,7 @@ use Rattle.std.proofs.lemmas.List.Sums.{sum_by-append, sum_by-cons}
 use Rattle.test_report_events.specs.Event.{EventView, SuiteEndView, SuiteEnds, SuiteStarts, TestEndView, TestEnds}
 use Rattle.test_report_events.specs.declared.event.TestResult.{TestResult}
 use Rattle.test_report_events.specs.declared.event.TestResult.TheVariants.{Ok, Failed, Ignored}
+use Rattle.test_report_run_notes.specs.Note.{CrashView, Disagrees, HasCrashed, NoteView, StrayEnds, StraySuiteEnds}
 use Rattle.test_report_laws.proofs.CargoReports.{only-settled_at, only-told, ready, reports-none}
 use Rattle.test_report_laws.proofs.EndSums as ends
 use Rattle.test_report_laws.proofs.EndSums.{by-last, early_rest, last_by, suite_note}
@@ -16,7 +17,6 @@ use Rattle.test_report_laws.proofs.Sums.{sum-if-none, sum-map, sum-none}
 use Rattle.test_report_laws.proofs.Types.{Explanation}
 use Rattle.test_report_laws.specs.Run.{AreBelow, Crashed, CrashedTogether, CrashesFollow, IsFirstOrBelow, crashed_test}
 use Rattle.test_report_run.specs.Ended.{end_notes}
-use Rattle.test_report_run.specs.Note.{CrashView, Disagrees, HasCrashed, NoteView, StrayEnds, StraySuiteEnds}
 use Rattle.test_report_run.specs.Others.{OthersView}
 use Rattle.test_report_run.specs.Over.{crash_again, crash_of, early_disagreements, early_notes, early_state, explained_of, failed_notes, flaky_note, flaky_notes, last_notes, number_notes}
 use Rattle.test_report_run.specs.Run.{RunState, Step, command_notes, counts_tests, ended_at, ended_early, file_end, file_notes, tests_in, no_event_notes, notes_at, open_suite, opened, reports_told, running_ends, running_over, settled_at, started_again, step, stray_ends, stray_over, stray_suite_notes, stray_test, suite_at, suite_place, told, with_suite_at, without_tests}

@@ -3,11 +3,11 @@ use Rattle.std.proofs.Common.{ℕ, List, ◌++◌, ◌+◌, ◌<◌, ◌≤◌, 
 use Rattle.std.specs.List.{count_by}
 use Rattle.std.proofs.lemmas.List.Sums.{sum_by-append}
 use Rattle.test_report_events.specs.Event.{DamagedLine, EventView}
+use Rattle.test_report_run_notes.specs.Note.{NoteView}
 use Rattle.test_report_laws.proofs.Outcomes.{outcome-means}
 use Rattle.test_report_laws.proofs.OverRuns.{over-run}
 use Rattle.test_report_laws.proofs.RunCauses.{causes-of, weight}
 use Rattle.test_report_laws.specs.Run.{DamagedLineShows, IsClean, damaged_lines_of, is_damaged}
-use Rattle.test_report_run.specs.Note.{NoteView}
 use Rattle.test_report_run.specs.Run.{RunState, after, file_notes, is_cause, notes_at}
 use Rattle.test_report_laws.specs.Whole.{all_notes}
 

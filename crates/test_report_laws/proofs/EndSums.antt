@@ -3,9 +3,9 @@ use Rattle.std.proofs.Common.{◌≡◌, ◌∙◌, ◌∷◌, [], ℕ, List, �
 use Rattle.std.specs.List.{sum_by}
 use Rattle.std.specs.Prelude.{◌-◌}
 use Rattle.std.proofs.lemmas.List.Sums.{sum_by-append, sum_by-cons}
+use Rattle.test_report_run_notes.specs.Note.{CrashView, Disagrees, DisagreementView, HasCrashed, HasNoEnd, IsNotRun, NoteView, SuiteIs}
 use Rattle.test_report_laws.proofs.Sums.{sum-all, sum-map}
 use Rattle.test_report_run.specs.Running.{RunningView}
-use Rattle.test_report_run.specs.Note.{CrashView, Disagrees, DisagreementView, HasCrashed, HasNoEnd, IsNotRun, NoteView, SuiteIs}
 use Rattle.test_report_run.specs.Others.{OthersView}
 use Rattle.test_report_run.specs.Over.{crash_again, crash_of, crashed_notes, early_disagreements, early_notes, early_state, failed_note, failed_notes, flaky_note, flaky_notes, initial_of, last_disagreement, last_state, lost, number_notes, rest_of, skipped_note}
 use Rattle.test_report_run.specs.Suite.{FlakyView, SuiteState, suite_name}

@@ -2,12 +2,12 @@
 use Rattle.std.proofs.Common.{◌≡◌, ℕ, List, ◌<◌, ◌≤◌, cond, refl, arith}
 use Rattle.std.proofs.lemmas.List.Sums.{sum_by-append, sum_by-le-sum_by}
 use Rattle.test_report_events.specs.Event.{EventView}
+use Rattle.test_report_run_notes.specs.Note.{Fails, NoteView, OutcomeView, TestIs}
 use Rattle.test_report_laws.proofs.Outcomes.{outcome-means}
 use Rattle.test_report_laws.proofs.OverRuns.{over-run}
 use Rattle.test_report_laws.proofs.Sums.{one-most}
 use Rattle.test_report_laws.proofs.ToldFailures.{no-failure, one-failure, told}
 use Rattle.test_report_laws.specs.Run.{FailedLineShows, FailedLinesAreTold, IsClean, failed_in, failed_lines_of, fails_as_told, is_test, is_told, is_told_failure, says_failed}
-use Rattle.test_report_run.specs.Note.{Fails, NoteView, OutcomeView, TestIs}
 use Rattle.test_report_run.specs.Run.{RunState, file_notes, has_failed, notes_at}
 use Rattle.test_report_laws.specs.Whole.{all_notes}
 

@@ -5,9 +5,9 @@ use Rattle.std.specs.Option.{option_map_or}
 use Rattle.std.specs.Prelude.{◌&&◌, ◌||◌, if◌then◌else◌, nat_lt, not}
 use Rattle.std.proofs.lemmas.List.Sums.{sum_by-append}
 use Rattle.test_report_events.specs.Event.{CommandView}
+use Rattle.test_report_run_notes.specs.Note.{CommandFails, DisagreementView, Disagrees, HasNoEvent, NoteView, ended_well, was_not_started}
 use Rattle.test_report_laws.proofs.CargoReports.{only-told, reports-none}
 use Rattle.test_report_laws.proofs.Sums.{sum-if-none}
-use Rattle.test_report_run.specs.Note.{CommandFails, DisagreementView, Disagrees, HasNoEvent, NoteView, ended_well, was_not_started}
 use Rattle.test_report_run.specs.Run.{RunState, Step, all_ended_early, command_fails, command_notes, file_end, file_notes, learned, no_event_notes, reports_told}
 
 -- the run when its failures of cargo are known, what its suites make known then, and the run when all of this is counted

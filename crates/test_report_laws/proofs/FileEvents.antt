@@ -7,6 +7,7 @@ use Rattle.std.proofs.lemmas.Bool.{cases_lt, eqb-true}
 use Rattle.std.proofs.lemmas.Bool.Decides.{nat_tests}
 use Rattle.std.proofs.lemmas.List.Sums.{sum_by-append, sum_by-cons}
 use Rattle.test_report_events.specs.Event.{BySignal, CargoFails, CommandOver, CommandStarts, Cancels, CommandView, DamagedLine, EventView, HeadingLine, NotStarted, OtherLine, Prints, SuiteEnds, SuiteStarts, TestEnds, TestIsSlow, TestStarts, WithStatus}
+use Rattle.test_report_run_notes.specs.Note.{CommandFails, Disagrees, HasNoEvent, ended_well, was_not_started}
 use Rattle.test_report_laws.proofs.Aside.{aside-early}
 use Rattle.test_report_laws.proofs.CargoReports.{only-cargo, only-settled_at, only-told, ready}
 use Rattle.test_report_laws.proofs.CauseCounts.{Bound, bound-after, bound-told, none-waits, quiet-causes}
@@ -17,7 +18,6 @@ use Rattle.test_report_laws.proofs.RunCauses.{causes-of, weight}
 use Rattle.test_report_laws.specs.Run.{CommandEndShows, IsClean, NoEventShows, events_in}
 use Rattle.test_report_run.specs.Events.{is_event}
 use Rattle.test_report_laws.specs.Whole.{IsFileEndOf, all_notes, notes_of, run_after, run_after_file, run_after_files}
-use Rattle.test_report_run.specs.Note.{CommandFails, Disagrees, HasNoEvent, ended_well, was_not_started}
 use Rattle.test_report_run.specs.Run.{RunState, after, command_fails, file_notes, is_cause, reports_told, run_start, told}
 
 -- lines that are no events of a harness

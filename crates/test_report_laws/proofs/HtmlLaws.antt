@@ -18,11 +18,11 @@ use Rattle.template.specs.Template.{Parts, Values, items_of, part_text, parts_te
 use Rattle.template.specs.declared.hole.Hole.TheVariants as hole
 use Rattle.test_report_laws.proofs.Parts.{in-left, in-right}
 use Rattle.test_report_laws.proofs.Phrases.{numbers-written, numbers_before, phrase-of, shown-phrases, slow-written, slow_text, values-of}
-use Rattle.test_report_laws.proofs.ReportValues.{failed-at, problems-at, skips-at, slow-at, suites-at}
+use Rattle.test_report_laws.proofs.ReportValues.{failed-at, flaky-at, problems-at, skips-at, slow-at, suites-at}
 use Rattle.test_report_laws.proofs.ShownValues.{names-causes, shown-holes, unmapped}
-use Rattle.test_report_forms.specs.Html.{PageIsSound, failed_parts, heading_phrase, html_of, page_heading, page_holes, page_parts, page_phrases, page_text, problem_parts, skip_phrase, suite_phrase, summary_phrase, time_phrase, title_phrase}
+use Rattle.test_report_forms.specs.Html.{PageIsSound, failed_parts, flaky_phrase, heading_phrase, html_of, page_heading, page_holes, page_parts, page_phrases, page_text, problem_parts, skip_phrase, suite_phrase, summary_phrase, time_phrase, title_phrase}
 use Rattle.test_report_forms.specs.Model.{ReportView, report_of}
-use Rattle.test_report_forms.specs.Values.{failed_values, problem_values, report_values, run_values, skip_values, suite_values, values_of_run}
+use Rattle.test_report_forms.specs.Values.{failed_values, flaky_values, problem_values, report_values, run_values, skip_values, suite_values, values_of_run}
 use Rattle.test_report_forms.specs.WholeOutput.{page_limits}
 use Rattle.test_report_forms.specs.Words.{outcome_word, run_numbers, slow_number}
 use Rattle.test_report_laws.specs.Forms.{HasPhrase, HasValues, HtmlHasNoControls, HtmlNamesCauses, HtmlReadsBack, HtmlSaysEnd, HtmlShowsItems, HtmlShowsPhrases, HtmlShowsValues}
@@ -137,6 +137,7 @@ html-shows-items sound in_sections in_phrases o entries end =
     let at_problem = codes "problems" ∷ codes "problem" ∷ [] in
     let at_suite = codes "suites" ∷ codes "suite" ∷ [] in
     let at_skip = codes "skips" ∷ codes "skip" ∷ [] in
+    let at_flaky = codes "flaky_tests" ∷ codes "test" ∷ [] in
     record {
       failed = unmapped (part failed_parts) (λ t. values_of (failed_values t)) _
           (subst (All (part failed_parts)) (failed-at report) (all-in-page vs (parts_text failed_parts) _
@@ -150,6 +151,8 @@ html-shows-items sound in_sections in_phrases o entries end =
           (subst (All (part (template_parts suite_phrase))) (suites-at report) (phrase-of vs page page_phrases at_suite suite_phrase refl all));
       skipped = unmapped (part (template_parts skip_phrase)) (λ t. values_of (skip_values t)) _
           (subst (All (part (template_parts skip_phrase))) (skips-at report) (phrase-of vs page page_phrases at_skip skip_phrase refl all));
+      flaky = unmapped (part (template_parts flaky_phrase)) (λ t. values_of (flaky_values t)) _
+          (subst (All (part (template_parts flaky_phrase))) (flaky-at report) (phrase-of vs page page_phrases at_flaky flaky_phrase refl all));
     }
 
 -- the tree

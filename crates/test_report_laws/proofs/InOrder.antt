@@ -7,6 +7,7 @@ use Rattle.std.proofs.lemmas.Bool.{cases_lt}
 use Rattle.std.proofs.lemmas.List.Elements.{All-get_or}
 use Rattle.std.proofs.lemmas.List.Sums.{sum_by-append}
 use Rattle.test_report_events.specs.Event.{EventView, SuiteEndView, SuiteEnds, SuiteStarts}
+use Rattle.test_report_run_notes.specs.Note.{NoteView, failed_of}
 use Rattle.test_report_laws.proofs.Announced.{announced-counted}
 use Rattle.test_report_laws.proofs.Books.{position-in}
 use Rattle.test_report_laws.proofs.CargoFailures.{cargo-shows}
@@ -24,12 +25,11 @@ use Rattle.test_report_laws.proofs.Tallies.{totals-count}
 use Rattle.test_report_laws.proofs.Verdicts.{early-cause, end-causes, outside-cause, unclean}
 use Rattle.test_report_laws.proofs.Weights.{all-numbered, has-number, numbered-ready, unnumbered, weight_of}
 use Rattle.test_report_laws.specs.Run.{Agrees, IsClean, IsSound, failed_in, failed_verdicts_of, is_test, not_run_of, passed_in}
-use Rattle.test_report_run.specs.Note.{NoteView}
 use Rattle.test_report_run.specs.Over.{last_notes}
 use Rattle.test_report_run.specs.Run.{RunState, counts_tests, ended_at, has_failed, is_cause, is_disagreement, tests_in, notes_at, open_suite, opened, run_start, settled_at, started_again, step, stray_suite_notes, suite_at, told, with_suite_at, without_tests}
 use Rattle.test_report_run.specs.Said.{numbers_of}
 use Rattle.test_report_laws.specs.Status.{EndsInOrder, IsInOrder, SuccessIsInOrder}
-use Rattle.test_report_run.specs.Suite.{SuiteState, cancelled_by, failed_of, has_key, with_line}
+use Rattle.test_report_run.specs.Suite.{SuiteState, cancelled_by, has_key, with_line}
 use Rattle.test_report_laws.specs.Whole.{IsLineOf, all_notes, notes_of, run_after, run_after_files}
 
 module _ (slow : ℕ) (files : List (List EventView)) (clean : IsClean (all_notes slow files)) where

@@ -17,6 +17,7 @@ use Rattle.template.specs.Shows.{HasPart, items_at, parts_show}
 use Rattle.template.specs.Template.{Values, parts_text, text_of}
 use Rattle.template.specs.Tree.{TreeView}
 use Rattle.template.specs.declared.hole.Hole.TheVariants as hole
+use Rattle.test_report_run_notes.specs.declared.note.RunEnd.{RunEnd}
 use Rattle.test_report_laws.proofs.Parts.{KeptHas, OneHas, all-weaker-named, in-left, in-right, one-last, some-weaker}
 use Rattle.test_report_forms.proofs.JunitElements.{item, run_item, run_suites, suite_cases, suite_item}
 use Rattle.test_report_forms.proofs.JunitEntries.{names-same}
@@ -29,7 +30,6 @@ use Rattle.test_report_forms.specs.JunitTree.{IsCaseElement, IsRunElement, IsSui
 use Rattle.test_report_forms.specs.Model.{CauseView, cause_of_entry, no_tests_ran, suite_name}
 use Rattle.test_report_laws.specs.Junit.{HasElement, HasJunitCase, JunitCause, JunitNamesCauses, JunitReadsBack, JunitSaysNoTests, failed_cause, junit_cause, no_test_cause, other_cause}
 use Rattle.test_report_forms.specs.declared.options.Options.{Options}
-use Rattle.test_report_run.specs.declared.note.RunEnd.{RunEnd}
 
 both-true : (a b : Bool) → a ≡ true → b ≡ false → (a && not b) ≡ true
 both-true true false p q = refl

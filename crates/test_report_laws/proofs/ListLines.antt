@@ -6,8 +6,11 @@ use Rattle.std.specs.Prelude.{max, unwrap_or}
 use Rattle.std.specs.Fmt.{decimal}
 use Rattle.std.specs.List.{All, AllZip, flat_map, slice_split}
 use Rattle.std.specs.Option.{IfSome, option_map_or}
+use Rattle.test_report_run_notes.specs.Finish.{finish_for}
+use Rattle.test_report_run_notes.specs.Note.{FailureView, HasCrashed, HasFailed, HasNoEnd, HasTimedOut, IsFlaky, KindView, OutcomeView, TestNoteView}
+use Rattle.test_report_run_notes.specs.declared.finish.Finish.TheVariants.{Passed}
 use Rattle.test_report_laws.proofs.CleanLines as clean
-use Rattle.test_report_laws.proofs.CleanLines.{CleanLine, clean-line, clean-replicate, word}
+use Rattle.test_report_laws.proofs.CleanLines.{CleanLine, clean-replicate, word}
 use Rattle.test_report_laws.proofs.CleanWords.{clean-attempts, clean-bracket, clean-disagreement, clean-failed_word, clean-not_run, clean-listed_word, clean-passed_word, clean-title}
 use Rattle.test_report_laws.proofs.Joins.{four-parts, item-parts, three-parts, words-end}
 use Rattle.test_report_laws.proofs.KeyedLines.{Alike, append-alike, each-alike, falling-alike, fold-alike, rising-alike, text-alike}
@@ -37,9 +40,6 @@ use Rattle.test_report_forms.specs.declared.options.Options.{Options}
 use Rattle.test_report_laws.specs.Lines.{AreInLines, IsInLine, IsLines, IsOutputInLines, IsShortInLine, IsWhyInLines, ended_block, ended_words, passed_block, text_block, list_block, listed_block}
 use Rattle.test_report_forms.specs.Why.{WhyView}
 use Rattle.test_report_forms.specs.WhyLines.{hidden_line, more_line, why_lines}
-use Rattle.test_report_run.specs.Counted.{finish_for}
-use Rattle.test_report_run.specs.Note.{FailureView, HasCrashed, HasFailed, HasNoEnd, HasTimedOut, IsFlaky, KindView, OutcomeView, TestNoteView}
-use Rattle.test_report_run.specs.declared.counted.Finish.TheVariants.{Passed}
 use Rattle.test_report_forms.specs.ShownWhy.{ShownWhyView, text_why}
 
 -- the lines of why a test failed

@@ -8,6 +8,7 @@ use Rattle.std.proofs.lemmas.List.Sums.{sum_by-append, sum_by-cons}
 use Rattle.test_report_events.specs.Event.{EventView, SuiteEndView, TestEndView, SuiteStarts, SuiteEnds, TestStarts, TestEnds, TestIsSlow, CargoFails, Prints}
 use Rattle.test_report_events.specs.declared.event.TestResult.{TestResult}
 use Rattle.test_report_events.specs.declared.event.TestResult.TheVariants.{Ok, Failed, Ignored}
+use Rattle.test_report_run_notes.specs.Note.{Disagrees, DisagreementView, FlakyEnds, HasNoEnd, IsNotRun, NoteView, StrayEnds, StraySuiteEnds, SuiteIs, SuiteNoteView, TestIs, TestNoteView}
 use Rattle.test_report_laws.proofs.Books.{IsIn, position-in}
 use Rattle.test_report_laws.proofs.CargoReports.{only-cargo, only-settled_at, only-told, ready, reports-none}
 use Rattle.test_report_laws.proofs.EndSums.{early_rest, last_by, sum-crashed}
@@ -17,7 +18,6 @@ use Rattle.test_report_laws.proofs.Sums.{sum-if-none, sum-map, sum-none}
 use Rattle.test_report_laws.proofs.Weights.{has-number, numbered-end, numbered-line, numbered-ready, numbered-reported, unnumbered, weigh, weight_of}
 use Rattle.test_report_run.specs.Ended.{after_end, end_notes}
 use Rattle.test_report_laws.specs.Run.{not_run_of}
-use Rattle.test_report_run.specs.Note.{Disagrees, DisagreementView, FlakyEnds, HasNoEnd, IsNotRun, NoteView, StrayEnds, StraySuiteEnds, SuiteIs, SuiteNoteView, TestIs, TestNoteView}
 use Rattle.test_report_run.specs.Others.{OthersView}
 use Rattle.test_report_run.specs.Over.{crash_of, crashed_notes, early_disagreements, early_notes, early_state, explained_of, failed_note, failed_notes, flaky_note, flaky_notes, initial_of, last_disagreement, last_notes, last_state, lost, number_notes, rest_of, skipped_note}
 use Rattle.test_report_run.specs.Run.{RunState, Step, after, counts_tests, ended_at, ended_early, file_notes, tests_in, notes_at, open_suite, opened, place_of_number, running_ends, running_over, settled_at, slow_at, started_again, step, stray_ends, stray_over, stray_suite_notes, stray_test, suite_at, suite_place, told, with_suite_at, without_tests}

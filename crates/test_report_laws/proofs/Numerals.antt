@@ -5,13 +5,13 @@ use Rattle.std.specs.List.{list_all}
 use Rattle.std.specs.Option.{option_or}
 use Rattle.std.specs.Prelude.{option_and_then}
 use Rattle.output_slice.specs.declared.panic_head.HeadSpan.{HeadSpan}
+use Rattle.test_report_run_notes.specs.Note.{Disagrees, FailureView, Fails, FlakyEnds, IsNotRun, IsSkipped, NoteView, OutcomeView, Passes, SuiteIs, TestIs, TestNoteView}
 use Rattle.test_report_forms.proofs.Tests.{and-left, and-right}
 use Rattle.test_report_forms.specs.Entry.{EntryView, FlakyPassed, IsEntryOf, IsTestEntry, LinesDisagree, SuiteNotRun, SuiteOver, TestFailed, TestPassed, TestSkipped}
 use Rattle.test_report_forms.specs.Explanation.{FoundView}
 use Rattle.test_report_forms.specs.Lines.{first_line}
-use Rattle.test_report_forms.specs.Place.{Cut, PlaceView, are_digits, cause_head, documented_place, failure_place, first_cut, if_ours, is_item, is_ours, item_place, last_cut, last_line, line_place, message_place, numbered_place, our_place, output, panic_place, parsed_place, place_behind, place_of, without_last}
+use Rattle.test_report_forms.specs.Place.{Cut, PlaceView, are_digits, cause_head, documented_place, failure_place, first_cut, if_ours, is_item, is_ours, item_place, last_cut, last_line, line_place, message_place, numbered_place, our_place, output, panic_place, parsed_place, place_after, place_of, without_last}
 use Rattle.test_report_forms.specs.Title.{title_name}
-use Rattle.test_report_run.specs.Note.{Disagrees, FailureView, Fails, FlakyEnds, IsNotRun, IsSkipped, NoteView, OutcomeView, Passes, SuiteIs, TestIs, TestNoteView}
 
 -- a number in decimal digits, the column of a place and a place
 pub record IsNumber (ds : List ℕ) : Type 0 where
@@ -66,7 +66,7 @@ numbered-documented : (name : List ℕ) → IsNumbered (documented_place name)
 unfolding documented_place
 numbered-documented name = numbered-then item_place numbered-item (first_cut (codes " - ") name)
 
-numbered-behind : (out : List ℕ) (head : HeadSpan) → IsNumbered (place_behind out head)
+numbered-behind : (out : List ℕ) (head : HeadSpan) → IsNumbered (place_after out head)
 numbered-behind out head = numbered-then parsed_place numbered-parsed (without_last 58 (first_line (drop head.stop out)))
 
 numbered-message_place : (text : List ℕ) → IsNumbered (message_place text)
@@ -83,7 +83,7 @@ numbered-ours (Some p) h = numbered-if_ours p h
 numbered-failure : (f : FailureView) (found : FoundView) → IsNumbered (failure_place f found)
 numbered-failure f found =
     let out : List ℕ = output f in
-    let panic = numbered-then (place_behind out) (numbered-behind out) (cause_head f found) in
+    let panic = numbered-then (place_after out) (numbered-behind out) (cause_head f found) in
     let said = numbered-then message_place numbered-message_place f.message in
     numbered-or (our_place (panic_place f found)) (our_place (option_and_then message_place f.message)) (numbered-ours (panic_place f found) panic)
     (numbered-ours (option_and_then message_place f.message) said)

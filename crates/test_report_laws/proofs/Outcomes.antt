@@ -12,15 +12,15 @@ use Rattle.run_events_stats.specs.declared.outcome.run_outcome.RunOutcome.{RunOu
 use Rattle.run_events_stats.specs.declared.outcome.run_outcome.RunOutcome.TheVariants as outcome
 use Rattle.run_events_stats.specs.declared.stats.RunStats.{RunStats}
 use Rattle.test_report_events.specs.Event.{EventView}
+use Rattle.test_report_run_notes.specs.Note.{Fails, FlakyEnds, IsSkipped, NoteView, OutcomeView, Passes, SuiteIs, SuiteNoteView, TestIs}
+use Rattle.test_report_run_notes.specs.declared.note.RunEnd.{RunEnd}
 use Rattle.test_report_laws.proofs.Counters.{of_suite, of_test, sums-up, with_outcome, fits}
 use Rattle.test_report_laws.proofs.Sums.{sum-none}
 use Rattle.test_report_laws.proofs.Tallies.{counted, failed-total, run-sums}
 use Rattle.test_report_laws.specs.Run.{Counts, IsClean, Means, OutcomeMeans, disagreements_in, failed_in, not_run_in}
-use Rattle.test_report_run.specs.Note.{Fails, FlakyEnds, IsSkipped, NoteView, OutcomeView, Passes, SuiteIs, SuiteNoteView, TestIs}
 use Rattle.test_report_run.specs.Run.{run_start, with_note}
 use Rattle.test_report_run.specs.Totals.{no_suites, suite_outcome, with_suite}
 use Rattle.test_report_laws.specs.Whole.{all_notes, run_after_files}
-use Rattle.test_report_run.specs.declared.note.RunEnd.{RunEnd}
 
 -- the outcome of tests: some failed, some were not run, none finished
 abbrev outcome_by : Bool → Bool → Bool → RunOutcome

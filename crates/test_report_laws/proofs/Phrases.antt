@@ -17,13 +17,13 @@ use Rattle.template.specs.Phrases.{has_phrase}
 use Rattle.template.specs.Shows.{HasPart, items_at, same_kind}
 use Rattle.template.specs.Template.{NoParts, Parts, Values, parts_text, text_of, values_of}
 use Rattle.template.specs.declared.hole.Hole.{Hole}
+use Rattle.test_report_run_notes.specs.Note.{failed_of}
+use Rattle.test_report_run_notes.specs.declared.note.RunEnd.{RunEnd}
 use Rattle.test_report_forms.specs.Holes.{HoleView, PhraseView, shows_phrase}
 use Rattle.test_report_forms.specs.Values.{one_text}
 use Rattle.test_report_forms.specs.Words.{failed_numbers, finished_numbers, other_numbers, passed_numbers, run_numbers, slow_number}
 use Rattle.test_report_laws.proofs.ReportValues.{slow_items}
 use Rattle.test_report_laws.specs.Forms.{HasPhrase, HasValues}
-use Rattle.test_report_run.specs.Suite.{failed_of}
-use Rattle.test_report_run.specs.declared.note.RunEnd.{RunEnd}
 
 -- an element of a list that a test finds
 found : {X : Type 0} (P : X → Type 0) (is : X → Bool) (x : X) → ((y : X) → is y ≡ true → y ≡ x) → (xs : List X) → list_any is xs ≡ true → All P xs → P x

@@ -13,6 +13,10 @@ use Rattle.run_events_levels.specs.declared.levels.FinalStatusLevel.TheVariants 
 use Rattle.run_events_levels.specs.declared.levels.OutputOnTestFinished.{OutputOnTestFinished}
 use Rattle.run_events_levels.specs.declared.levels.OutputStoreFinal.{OutputStoreFinal}
 use Rattle.run_events_levels.specs.declared.levels.OutputStoreFinal.TheVariants as store
+use Rattle.test_report_run_notes.specs.Finish.{finish_for}
+use Rattle.test_report_run_notes.specs.Note.{CargoSays, CommandFails, DisagreementView, EndsEarly, HasCrashed, HasFailed, HasNoEnd, HasNoEvent, HasTimedOut, IsDamaged, IsFlaky, KindView, SaysOther, StartsOutside, StrayEnds, StraySuiteEnds, TestNoteView}
+use Rattle.test_report_run_notes.specs.declared.finish.Finish.TheVariants.{Passed}
+use Rattle.test_report_run_notes.specs.declared.note.RunEnd.{RunEnd}
 use Rattle.test_report_forms.specs.Entry.{EntryView, FlakyPassed, LinesDisagree, SuiteNotRun, SuiteOver, TestFailed, TestPassed, TestSkipped}
 use Rattle.test_report_forms.specs.Levels.{finished_output, has_line, listed_text, shown_if, skipped_output}
 use Rattle.test_report_forms.specs.List.{KeyedLine, ended_before, ended_line, failed_line, final_level_of, flaky_lines, flaky_of, flaky_word, item, item_at, list_line, part_at, listed_word, passed_word, put_falling, put_rising, short_list, slow_line, slow_lines, slow_of, text_of_lines, timed}
@@ -32,10 +36,6 @@ use Rattle.test_report_laws.proofs.Quiet.{Inner, Quiet, also, dark-decimal, inne
 use Rattle.test_report_laws.proofs.QuietWords.{inner-bracket, inner-its_tests, inner-outcome, inner-result, inner-said_numbers, inner-summary, inner-verdict}
 use Rattle.test_report_laws.proofs.QuietShown.{After, quiet-line, quiet-name, quiet-text}
 use Rattle.test_report_laws.specs.Commands.{HasNoCommands, NamesHasNoCommands, TextHasNoCommands}
-use Rattle.test_report_run.specs.Counted.{finish_for}
-use Rattle.test_report_run.specs.Note.{CargoSays, CommandFails, DisagreementView, EndsEarly, HasCrashed, HasFailed, HasNoEnd, HasNoEvent, HasTimedOut, IsDamaged, IsFlaky, KindView, SaysOther, StartsOutside, StrayEnds, StraySuiteEnds, TestNoteView}
-use Rattle.test_report_run.specs.declared.counted.Finish.TheVariants.{Passed}
-use Rattle.test_report_run.specs.declared.note.RunEnd.{RunEnd}
 
 -- a part of a line that is quiet after another one, at the front of the line, and after a name
 record Within (text : List ℕ) : Type 0 where

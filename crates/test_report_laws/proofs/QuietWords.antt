@@ -5,10 +5,10 @@ use Rattle.run_events_stats.specs.declared.outcome.run_outcome.RunOutcome.{RunOu
 use Rattle.run_events_stats.specs.declared.outcome.run_outcome.RunOutcome.TheVariants as outcome
 use Rattle.test_report_events.specs.declared.event.TestResult.{TestResult}
 use Rattle.test_report_events.specs.declared.event.TestResult.TheVariants as ended
+use Rattle.test_report_run_notes.specs.declared.note.RunEnd.{RunEnd}
 use Rattle.test_report_forms.specs.Shown.{bracket, three_digits}
 use Rattle.test_report_forms.specs.Words.{failed_numbers, finished_numbers, its_tests, other_numbers, outcome_word, passed_numbers, result_word, run_numbers, said_numbers, slow_number, summary_line, verdict_word}
 use Rattle.test_report_laws.proofs.Quiet.{Inner, also, inner-decimal, inner-if, inner-more, is_inner, word}
-use Rattle.test_report_run.specs.declared.note.RunEnd.{RunEnd}
 
 inner-replicate : (b n : ℕ) → is_inner b ≡ true → Inner (replicate n b)
 inner-replicate b zero e = word [] refl

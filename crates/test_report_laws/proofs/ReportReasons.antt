@@ -5,6 +5,8 @@ use Rattle.std.specs.Prelude.{◌⊎◌, Contains, IsTrue}
 use Rattle.std.proofs.lemmas.List.Concat.{flat_map-append}
 use Rattle.std.proofs.lemmas.Bool.{false_from_ne_true}
 use Rattle.std.proofs.lemmas.List.Elements.{All-cons, All-head, All-nil, Contains-append_right}
+use Rattle.test_report_run_notes.specs.Note.{Disagrees, FailureView, Fails, FlakyEnds, IsNotRun, IsSkipped, NoteView, OutcomeView, Passes, SuiteIs, TestIs, TestNoteView, text_view}
+use Rattle.test_report_run_notes.specs.declared.note.RunEnd.{RunEnd}
 use Rattle.test_report_forms.specs.Model.{FailedView, all_failures, cause_line, failure_of_entry, failures_of, no_tests_ran, shown_failure_of, with_room}
 use Rattle.test_report_forms.specs.Entry.{EntryView, FlakyPassed, IsEntryOf, IsTestEntry, LinesDisagree, SuiteNotRun, SuiteOver, TestFailed, TestPassed, TestSkipped}
 use Rattle.test_report_forms.specs.Files.{html_last, junit_last, markdown_last}
@@ -30,13 +32,11 @@ use Rattle.test_report_forms.specs.declared.html.HtmlForm.{HtmlForm}
 use Rattle.test_report_forms.specs.declared.junit.JunitForm.{JunitForm}
 use Rattle.test_report_forms.specs.declared.markdown.MarkdownForm.{MarkdownForm}
 use Rattle.test_report_forms.specs.declared.options.Options.{Options}
-use Rattle.test_report_run.specs.Note.{Disagrees, FailureView, Fails, FlakyEnds, IsNotRun, IsSkipped, NoteView, OutcomeView, Passes, SuiteIs, TestIs, TestNoteView, text_view}
 use Rattle.test_report_run.specs.Run.{end_of, has_failed}
 use Rattle.test_report_laws.specs.Lines.{Block, GithubNamesCauses, GithubSays, SaysReason, TextNamesCauses, TextSays, github_block, is_reason, notice, text_block, HasCause, list_block}
 use Rattle.test_report_laws.specs.Status as status
 use Rattle.test_report_laws.specs.Status.{RanNoTests, Succeeds}
 use Rattle.test_report_laws.specs.Whole.{all_notes}
-use Rattle.test_report_run.specs.declared.note.RunEnd.{RunEnd}
 use Rattle.test_report_laws.proofs.SameRun.{one-run}
 use Rattle.test_report_laws.specs.Report.{FailureHasReason, FilesNameReason, GithubNamesReason, HasReasonCase, HtmlNamesReason, JunitNamesReason, MarkdownNamesReason, NamesReason, SuccessMeans, TextNamesReason, only_texts}
 use Rattle.test_report_laws.proofs.Uncancelled.{none-cancelled}

@@ -7,10 +7,10 @@ use Rattle.std.specs.Str.{bytes_eq}
 use Rattle.template.proofs.Items.{items_first, items_last, other_section, section_items}
 use Rattle.template.specs.Shows.{items_at}
 use Rattle.template.specs.Template.{ValueView, Values, items_of, section, text_of, values_of}
+use Rattle.test_report_run_notes.specs.declared.note.RunEnd.{RunEnd}
 use Rattle.test_report_forms.specs.Model.{FailedView, ReportView, numbers_of_run}
 use Rattle.test_report_forms.specs.Values as values
-use Rattle.test_report_forms.specs.Values.{bar, failed_items, failed_values, items, problem_items, one_text, problem_values, report_values, run_values, skip_items, skip_values, slow_item, suite_items, suite_values, time_item}
-use Rattle.test_report_run.specs.declared.note.RunEnd.{RunEnd}
+use Rattle.test_report_forms.specs.Values.{bar, failed_items, failed_values, flaky_items, flaky_values, items, problem_items, one_text, problem_values, report_values, run_values, skip_items, skip_values, slow_item, suite_items, suite_values, time_item}
 
 -- the values of the run are not in these lists
 no-time : (key : List ℕ) (time : Option ℕ) → bytes_eq (codes "time") key ≡ false → items_of key (values_of (time_item time)) ≡ []
@@ -65,6 +65,9 @@ module _ (r : ReportView) where
   abbrev skip_lists : List ValueView
   skip_lists = section (codes "skips") (skip_items r.skipped)
 
+  abbrev flaky_lists : List ValueView
+  flaky_lists = section (codes "flaky_tests") (flaky_items r.flaky)
+
   -- the values before each list
   abbrev first_two : List ValueView
   first_two = run_values r.end ++ bar_values
@@ -81,6 +84,9 @@ module _ (r : ReportView) where
   abbrev first_six : List ValueView
   first_six = first_five ++ slow_lists
 
+  abbrev first_seven : List ValueView
+  first_seven = first_six ++ skip_lists
+
   module _ (key : List ℕ) where
     abbrev of : List ValueView → List Values
     of vs = items_of key (values_of vs)
@@ -96,12 +102,13 @@ module _ (r : ReportView) where
   unfolding report_values
   slow-at =
       let key = codes "slow" in
-      items_first key first_six skip_lists (other_section key (codes "skips") _ refl)
+      items_first key first_seven flaky_lists (other_section key (codes "flaky_tests") _ refl)
+      ∙ (items_first key first_six skip_lists (other_section key (codes "skips") _ refl)
       ∙ (items_first key first_five slow_lists (other_section key (codes "slowest") _ refl)
       ∙ (items_first key first_four suite_lists (other_section key (codes "suites") _ refl)
       ∙ (items_first key first_three failure_values (other_section key (codes "failures") _ refl)
       ∙ (items_first key first_two problem_lists (other_section key (codes "problems") _ refl)
-      ∙ (items_first key (run_values r.end) bar_values (other_section key (codes "bar") _ refl) ∙ slow-run r.end)))))
+      ∙ (items_first key (run_values r.end) bar_values (other_section key (codes "bar") _ refl) ∙ slow-run r.end))))))
 
   -- the items of problems
   pub problems-at : items_at (codes "problems" ∷ codes "problem" ∷ []) (values_of (report_values r))
@@ -110,11 +117,12 @@ module _ (r : ReportView) where
   problems-at =
       let key = codes "problems" in
       ap (flat_map (items_at (codes "problem" ∷ [])))
-      (items_first key first_six skip_lists (other_section key (codes "skips") _ refl)
+      (items_first key first_seven flaky_lists (other_section key (codes "flaky_tests") _ refl)
+      ∙ (items_first key first_six skip_lists (other_section key (codes "skips") _ refl)
       ∙ (items_first key first_five slow_lists (other_section key (codes "slowest") _ refl)
       ∙ (items_first key first_four suite_lists (other_section key (codes "suites") _ refl)
       ∙ (items_first key first_three failure_values (other_section key (codes "failures") _ refl)
-      ∙ items_last key first_two problem_lists (none-of-two key refl refl refl)))))
+      ∙ items_last key first_two problem_lists (none-of-two key refl refl refl))))))
       ∙ section_items key (codes "problem") (λ p. values_of (problem_values p)) r.problems
 
   -- the items of failed tests
@@ -124,9 +132,10 @@ module _ (r : ReportView) where
       let key = codes "failures" in
       let before = none-of-both key first_two problem_lists (none-of-two key refl refl refl) (other_section key (codes "problems") _ refl) in
       ap (flat_map (items_at (codes "failed" ∷ [])))
-      (items_first key first_six skip_lists (other_section key (codes "skips") _ refl)
+      (items_first key first_seven flaky_lists (other_section key (codes "flaky_tests") _ refl)
+      ∙ (items_first key first_six skip_lists (other_section key (codes "skips") _ refl)
       ∙ (items_first key first_five slow_lists (other_section key (codes "slowest") _ refl)
-      ∙ (items_first key first_four suite_lists (other_section key (codes "suites") _ refl) ∙ items_last key first_three failure_values before)))
+      ∙ (items_first key first_four suite_lists (other_section key (codes "suites") _ refl) ∙ items_last key first_three failure_values before))))
       ∙ section_items key (codes "failed") (λ t. values_of (failed_values t)) r.failed
 
   -- the items of suites
@@ -137,8 +146,9 @@ module _ (r : ReportView) where
       let three = none-of-both key first_two problem_lists (none-of-two key refl refl refl) (other_section key (codes "problems") _ refl) in
       let before = none-of-both key first_three failure_values three (other_section key (codes "failures") _ refl) in
       ap (flat_map (items_at (codes "suite" ∷ [])))
-      (items_first key first_six skip_lists (other_section key (codes "skips") _ refl)
-      ∙ (items_first key first_five slow_lists (other_section key (codes "slowest") _ refl) ∙ items_last key first_four suite_lists before))
+      (items_first key first_seven flaky_lists (other_section key (codes "flaky_tests") _ refl)
+      ∙ (items_first key first_six skip_lists (other_section key (codes "skips") _ refl)
+      ∙ (items_first key first_five slow_lists (other_section key (codes "slowest") _ refl) ∙ items_last key first_four suite_lists before)))
       ∙ section_items key (codes "suite") (λ s. values_of (suite_values s)) r.suites
 
   -- the items of skipped tests that have a reason
@@ -150,8 +160,22 @@ module _ (r : ReportView) where
       let four = none-of-both key first_three failure_values three (other_section key (codes "failures") _ refl) in
       let five = none-of-both key first_four suite_lists four (other_section key (codes "suites") _ refl) in
       let before = none-of-both key first_five slow_lists five (other_section key (codes "slowest") _ refl) in
-      ap (flat_map (items_at (codes "skip" ∷ []))) (items_last key first_six skip_lists before)
+      ap (flat_map (items_at (codes "skip" ∷ [])))
+      (items_first key first_seven flaky_lists (other_section key (codes "flaky_tests") _ refl) ∙ items_last key first_six skip_lists before)
       ∙ section_items key (codes "skip") (λ t. values_of (skip_values t)) r.skipped
+
+  -- the items of tests that passed after several attempts
+  pub flaky-at : items_at (codes "flaky_tests" ∷ codes "test" ∷ []) (values_of (report_values r)) ≡ map (λ t. values_of (flaky_values t)) r.flaky
+  unfolding report_values
+  flaky-at =
+      let key = codes "flaky_tests" in
+      let three = none-of-both key first_two problem_lists (none-of-two key refl refl refl) (other_section key (codes "problems") _ refl) in
+      let four = none-of-both key first_three failure_values three (other_section key (codes "failures") _ refl) in
+      let five = none-of-both key first_four suite_lists four (other_section key (codes "suites") _ refl) in
+      let six = none-of-both key first_five slow_lists five (other_section key (codes "slowest") _ refl) in
+      let before = none-of-both key first_six skip_lists six (other_section key (codes "skips") _ refl) in
+      ap (flat_map (items_at (codes "test" ∷ []))) (items_last key first_seven flaky_lists before)
+      ∙ section_items key (codes "test") (λ t. values_of (flaky_values t)) r.flaky
 
 -- the name of a failed test
 pub name-of : (t : FailedView) → text_of (codes "name") (values_of (failed_values t)) ≡ t.name

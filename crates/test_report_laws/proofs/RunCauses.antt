@@ -1,9 +1,9 @@
 -- The failed tests and disagreements that are known.
 use Rattle.std.proofs.Common.{◌≡◌, ◌+◌, ℕ, List, cond, refl, arith}
 use Rattle.std.specs.List.{count_by}
+use Rattle.test_report_run_notes.specs.Note.{NoteView, TestIs}
 use Rattle.test_report_laws.proofs.Sums.{sum-both}
 use Rattle.test_report_laws.specs.Run.{disagreements_in, failed_in, is_test}
-use Rattle.test_report_run.specs.Note.{NoteView, TestIs}
 use Rattle.test_report_run.specs.Run.{has_failed, is_cause, is_disagreement}
 
 -- a cause is a failed test or a disagreement

@@ -5,9 +5,9 @@ use Rattle.std.proofs.lemmas.List.Sums.{fold-append}
 use Rattle.std.specs.List.{AllZip, flat_map, onto_first}
 use Rattle.std.specs.Prelude.{false, if◌then◌else◌, true}
 use Rattle.test_report_events.specs.Event.{EventView}
+use Rattle.test_report_run_notes.specs.Note.{NoteView}
 use Rattle.test_report_engine.proofs.Lists.{zip-append}
 use Rattle.test_report_forms.specs.Entry.{EntryView, IsEntryOf}
-use Rattle.test_report_run.specs.Note.{NoteView}
 use Rattle.test_report_run.specs.Run.{RunState, after, after_file, end_of, file_notes, run_start}
 use Rattle.test_report_run.proofs.Lines.{notes-append}
 use Rattle.test_report_laws.specs.Whole as whole

@@ -13,6 +13,8 @@ use Rattle.output_slice.specs.declared.panic_head.HeadSpan.{HeadSpan}
 use Rattle.template.proofs.Characters.{chars-encode}
 use Rattle.template.proofs.Lacks.{Lacks, both, lacks-decimal, lacks-escape, none, one-char, visible}
 use Rattle.template.specs.Shown.{escape}
+use Rattle.test_report_run_notes.specs.Note.{CrashView, Disagrees, FailureView, Fails, FlakyEnds, HasCrashed, HasFailed, HasNoEnd, HasTimedOut, IsFlaky, IsNotRun, IsSkipped, KindView, NoteView, OutcomeView, Passes, SuiteIs, TestIs, TestNoteView}
+use Rattle.test_report_run_notes.specs.Texts.{floor_of, is_boundary}
 use Rattle.test_report_forms.proofs.Tests.{and-left, and-right, not-false}
 use Rattle.test_report_forms.specs.Entry.{EntryView, IsEntryOf, IsTestEntry, TestFailed}
 use Rattle.test_report_forms.specs.Explanation.{FoundView}
@@ -25,8 +27,6 @@ use Rattle.test_report_forms.specs.Written.{last_written, written_count, written
 use Rattle.test_report_forms.specs.declared.entry.Entry.TheVariants as entry
 use Rattle.test_report_laws.proofs.Lines.{in-one-line}
 use Rattle.test_report_laws.specs.Lines.{IsInLine, ShortIsInLine}
-use Rattle.test_report_run.specs.LongestEnd.{floor_of, is_boundary}
-use Rattle.test_report_run.specs.Note.{CrashView, Disagrees, FailureView, Fails, FlakyEnds, HasCrashed, HasFailed, HasNoEnd, HasTimedOut, IsFlaky, IsNotRun, IsSkipped, KindView, NoteView, OutcomeView, Passes, SuiteIs, TestIs, TestNoteView}
 
 abbrev is_feed : ℕ → Bool
 is_feed b = b == 10

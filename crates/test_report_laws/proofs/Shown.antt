@@ -6,6 +6,8 @@ use Rattle.std.specs.Prelude.{◌==◌, ◌↔◌, IfSome, IsTrue, if◌then◌e
 use Rattle.std.proofs.lemmas.Bool.Decides.{nat_tests}
 use Rattle.std.proofs.lemmas.Bool.{or_from, or_parts}
 use Rattle.test_report_events.specs.Event.{SuiteEndView}
+use Rattle.test_report_run_notes.specs.Note.{Disagrees, HasNoEnd, NoteView, StraySuiteEnds, failed_of}
+use Rattle.test_report_run_notes.specs.declared.note.SaidNumbers.{SaidNumbers}
 use Rattle.test_report_laws.proofs.Counters.{after-last, of_test}
 use Rattle.test_report_laws.proofs.EndSums as ends
 use Rattle.test_report_laws.proofs.EndSums.{last_by}
@@ -14,14 +16,12 @@ use Rattle.test_report_laws.proofs.Tallies.{count-of, crashed_weight, finished-c
 use Rattle.test_report_run.specs.Running.{RunningView}
 use Rattle.test_report_run.specs.LastLine.{is_contradicted}
 use Rattle.test_report_laws.specs.Run.{Agrees, EarlyEndShows, LastLineAgrees, StrayEndShows, crashed_in, disagreements_in, failed_in, fails_by, has_passed, is_crash, passed_in}
-use Rattle.test_report_run.specs.Note.{Disagrees, HasNoEnd, NoteView, StraySuiteEnds}
 use Rattle.test_report_run.specs.Others.{OthersView}
 use Rattle.test_report_run.specs.Over.{crash_of, early_disagreements, early_notes, explained_of, failed_note, flaky_note, last_disagreement, last_state, lost, skipped_note}
 use Rattle.test_report_run.specs.Run.{RunState, counts_tests, ended_at, is_disagreement, open_suite, step, stray_suite_notes}
 use Rattle.test_report_run.specs.Said.{numbers_of}
-use Rattle.test_report_run.specs.Suite.{SuiteState, failed_of}
+use Rattle.test_report_run.specs.Suite.{SuiteState}
 use Rattle.test_report_laws.proofs.Types.{Explanation}
-use Rattle.test_report_run.specs.declared.note.SaidNumbers.{SaidNumbers}
 
 abbrev weight : NoteView → ℕ
 weight note = cond (is_disagreement note) 1 0

@@ -10,6 +10,7 @@ use Rattle.template.specs.Laws.{ShowsValues}
 use Rattle.template.specs.Shows.{HasPart, items_at}
 use Rattle.template.specs.Template.{Parts, Values, parts_text, text_of, values_of}
 use Rattle.template.specs.declared.hole.Hole.{Hole}
+use Rattle.test_report_run_notes.specs.declared.note.RunEnd.{RunEnd}
 use Rattle.test_report_laws.proofs.ReportValues.{failed-at, name-of, problems-at}
 use Rattle.test_report_forms.specs.Entry.{EntryView, FlakyPassed, LinesDisagree, SuiteNotRun, SuiteOver, TestFailed, TestPassed, TestSkipped}
 use Rattle.test_report_forms.specs.Holes.{HoleView, has_hole}
@@ -18,7 +19,6 @@ use Rattle.test_report_forms.specs.Values.{failed_values, problem_values, values
 use Rattle.test_report_forms.specs.WholeOutput.{page_limits}
 use Rattle.test_report_forms.specs.Words.{outcome_word}
 use Rattle.test_report_laws.specs.Forms.{HasValues, NamesCauses, failed_name}
-use Rattle.test_report_run.specs.declared.note.RunEnd.{RunEnd}
 use Rattle.test_report_forms.specs.declared.options.Options.{Options}
 
 -- what is rendered has the values of the template's holes

@@ -4,13 +4,13 @@ use Rattle.std.specs.List.{All}
 use Rattle.std.proofs.lemmas.List.Elements.{All-weaker}
 use Rattle.std.proofs.lemmas.List.Sums.{get_or-le-sum_by}
 use Rattle.run_events_stats.specs.Summary.{failed_tests}
+use Rattle.test_report_run_notes.specs.Note.{NoteView, failed_of}
 use Rattle.test_report_laws.proofs.Books.{Holds, Rules, holds-after, kept}
 use Rattle.test_report_laws.proofs.Counters.{Sound, counter-rules, of_suite, of_test}
 use Rattle.test_report_laws.proofs.Tallies.{count-of, failed-counts, failed_weight}
 use Rattle.test_report_laws.specs.Run.{FailuresAreKnown, IsSound, SuitesAreSound, failed_in}
-use Rattle.test_report_run.specs.Note.{NoteView}
 use Rattle.test_report_run.specs.Run.{RunState, has_failed, run_start}
-use Rattle.test_report_run.specs.Suite.{SuiteState, failed_of}
+use Rattle.test_report_run.specs.Suite.{SuiteState}
 use Rattle.test_report_laws.specs.Whole.{all_notes, notes_of, run_after_files}
 
 as-record : (s : SuiteState) → Sound (kept s) → IsSound s

@@ -8,15 +8,15 @@ use Rattle.run_events_stats.specs.declared.stats.RunStats.{RunStats}
 use Rattle.test_report_events.specs.Event.{EventView, TestEndView}
 use Rattle.test_report_events.specs.declared.event.TestResult.{TestResult}
 use Rattle.test_report_events.specs.declared.event.TestResult.TheVariants.{Ok, Failed, Ignored}
+use Rattle.test_report_run_notes.specs.Finish.{finish_for, view_of_finish}
+use Rattle.test_report_run_notes.specs.Note.{Fails, HasTimedOut, IsFlaky, IsSkipped, KindView, NoteView, OutcomeView, Passes, TestIs, TestNoteView}
 use Rattle.test_report_laws.proofs.Books.{HoldsAll, holds-whole, sums_in, sums_of}
 use Rattle.test_report_laws.proofs.Counters.{early-suite, exactly, fits, fits_kind, last-suite, of_suite, of_test, sum-of, total, with_outcome}
 use Rattle.test_report_laws.proofs.EndSums as ends
 use Rattle.test_report_laws.proofs.EndSums.{last_by}
 use Rattle.test_report_laws.proofs.Sums.{sum-both, sum-same}
 use Rattle.test_report_run.specs.Running.{RunningView}
-use Rattle.test_report_run.specs.Counted.{finish_for, view_of_finish}
 use Rattle.test_report_laws.specs.Run.{Counts, TotalsAreCounts, failed_in, fails_by, has_passed, is_crash, is_test, is_timed_out, not_run_in, not_run_of, passed_in, was_skipped}
-use Rattle.test_report_run.specs.Note.{Fails, HasTimedOut, IsFlaky, IsSkipped, KindView, NoteView, OutcomeView, Passes, TestIs, TestNoteView}
 use Rattle.test_report_run.specs.Ended.{after_end, end_notes}
 use Rattle.test_report_run.specs.Suite.{OverView, SuiteState}
 use Rattle.test_report_laws.proofs.Types.{Explanation}

@@ -1,6 +1,7 @@
 -- The lines of the form for people, and of the form of names.
 use Rattle.std.proofs.Common.{refl, sym, subst, ℕ, List, [], ◌++◌, append-nil, append_assoc, codes, slice_index_or, inl, inr}
 use Rattle.std.specs.List.{All, filter_map, flat_map}
+use Rattle.test_report_run_notes.specs.declared.note.RunEnd.{RunEnd}
 use Rattle.test_report_laws.proofs.CleanLines.{clean-line, word}
 use Rattle.test_report_laws.proofs.CleanWords.{clean-outcome, clean-summary}
 use Rattle.test_report_laws.proofs.Joins.{end-parts, list-parts, rule-parts}
@@ -13,7 +14,6 @@ use Rattle.test_report_forms.specs.Text.{outcome_line, summary_lines, text_last,
 use Rattle.test_report_forms.specs.Words.{outcome_word, summary_line}
 use Rattle.test_report_forms.specs.declared.options.Options.{Options}
 use Rattle.test_report_laws.specs.Lines.{AreInLines, EndsWith, HasAfterRule, HasBlocks, IsInLine, IsLines, IsShortInLine, NamesNamesTests, TextNamesCauses, TextSays, names_block, rule, text_block, list_block}
-use Rattle.test_report_run.specs.declared.note.RunEnd.{RunEnd}
 use Rattle.test_report_laws.proofs.ListLines.{at-written, entry-written, flaky-text, list-lines, list-no-rule, part-lines}
 
 -- the end

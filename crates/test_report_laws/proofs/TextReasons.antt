@@ -11,6 +11,9 @@ use Rattle.run_events_levels.specs.declared.levels.OutputOnTestFinished.{OutputO
 use Rattle.run_events_levels.specs.declared.levels.OutputStoreFinal.TheVariants as store
 use Rattle.run_events_levels.specs.declared.levels.StatusLevel.TheVariants as level
 use Rattle.run_events_settings.specs.Config.{is_immediate_display, is_final_display}
+use Rattle.test_report_run_notes.specs.Finish.{finish_for}
+use Rattle.test_report_run_notes.specs.Note.{FailureView, HasCrashed, HasFailed, HasNoEnd, HasTimedOut, IsFlaky, KindView, TestNoteView}
+use Rattle.test_report_run_notes.specs.declared.note.RunEnd.{RunEnd}
 use Rattle.test_report_forms.specs.Levels.{finished_output, has_line}
 use Rattle.test_report_forms.specs.Entry.{EntryView, FlakyPassed, LinesDisagree, SuiteNotRun, SuiteOver, TestFailed, TestPassed, TestSkipped}
 use Rattle.test_report_laws.proofs.Lines.{all-blocks}
@@ -23,11 +26,8 @@ use Rattle.test_report_forms.specs.ShownWhy.{text_why}
 use Rattle.test_report_forms.specs.Why.{WhyView}
 use Rattle.test_report_forms.specs.WhyLines.{why_lines}
 use Rattle.test_report_forms.specs.declared.options.Options.{Options}
-use Rattle.test_report_run.specs.Counted.{finish_for}
-use Rattle.test_report_run.specs.Note.{FailureView, HasCrashed, HasFailed, HasNoEnd, HasTimedOut, IsFlaky, KindView, TestNoteView}
 use Rattle.test_report_laws.specs.Lines.{Block, EndsWith, HasBlock, HasBlocks, SaysReason, TextSays, ended_block, is_reason, text_block, ended_words, HasCause, IsShortInLine, list_block, listed_block}
 use Rattle.test_report_laws.specs.Status.{RanNoTests}
-use Rattle.test_report_run.specs.declared.note.RunEnd.{RunEnd}
 use Rattle.test_report_laws.specs.Report.{lists_failures, shows_failures}
 use Rattle.test_report_laws.proofs.Uncancelled.{IsNotCancelled}
 

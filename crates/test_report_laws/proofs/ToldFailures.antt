@@ -10,13 +10,13 @@ use Rattle.std.proofs.lemmas.Slice.Eq.{bytes_eq-Decides}
 use Rattle.test_report_events.specs.Event.{EventView, SuiteEndView, TestEndView, SuiteStarts, SuiteEnds, TestEnds}
 use Rattle.test_report_events.specs.declared.event.TestResult.{TestResult}
 use Rattle.test_report_events.specs.declared.event.TestResult.TheVariants.{Ok, Failed, Ignored}
+use Rattle.test_report_run_notes.specs.Note.{Disagrees, Fails, NoteView, StrayEnds, StraySuiteEnds, TestIs, TestNoteView}
 use Rattle.test_report_laws.proofs.CargoReports.{only-settled_at, ready, reports-none}
 use Rattle.test_report_laws.proofs.EndSums.{by-early, by-last, last_by}
 use Rattle.test_report_laws.proofs.FileEnds.{reported_run, suites-alone}
 use Rattle.test_report_laws.proofs.Sums.{sum-if-none}
 use Rattle.test_report_run.specs.Ended.{end_notes, failure_of}
 use Rattle.test_report_laws.specs.Run.{FailureIsTold, NoFailureOfFileEnd, OneFailureOfLine, TellsFailure, is_failure, is_told_failure, says_failed}
-use Rattle.test_report_run.specs.Note.{Disagrees, Fails, NoteView, StrayEnds, StraySuiteEnds, TestIs, TestNoteView}
 use Rattle.test_report_run.specs.Others.{OthersView}
 use Rattle.test_report_run.specs.Over.{early_notes, explained_of}
 use Rattle.test_report_run.specs.Run.{RunState, Step, counts_tests, ended_at, ended_early, tests_in, open_suite, opened, running_ends, running_over, settled_at, started_again, step, stray_ends, stray_over, stray_suite_notes, stray_test, suite_at, suite_place}

@@ -16,15 +16,15 @@ use Rattle.test_report_events.specs.Line.{EndSays, EventSays, LineSays, TextSays
 use Rattle.test_report_events.specs.Said.{Says}
 use Rattle.test_report_events.specs.declared.event.TestResult.{TestResult}
 use Rattle.test_report_events.specs.declared.event.TestResult.TheVariants.{Ok, Failed, Ignored}
+use Rattle.test_report_run_notes.specs.Note.{Disagrees, Fails, FailureView, FlakyEnds, IsNotRun, IsSkipped, NoteView, OutcomeView, Passes, StrayEnds, StraySuiteEnds, SuiteIs, TestIs, TestNoteView}
 use Rattle.test_report_engine.specs.Lines.{InputView, events_after, events_before}
 use Rattle.test_report_engine.specs.Report.{AreEntriesOf, all_entries}
 use Rattle.test_report_forms.specs.Entry.{EntryView, IsEntryOf, IsTestEntry, TestFailed}
 use Rattle.test_report_forms.specs.Why.{WhyView}
 use Rattle.test_report_run.specs.Ended.{end_notes}
-use Rattle.test_report_run.specs.Note.{Disagrees, Fails, FailureView, FlakyEnds, IsNotRun, IsSkipped, NoteView, OutcomeView, Passes, StrayEnds, StraySuiteEnds, SuiteIs, TestIs, TestNoteView}
 use Rattle.test_report_run.specs.Others.{OthersView}
 use Rattle.test_report_run.specs.Over.{early_notes, explained_of, last_notes}
-use Rattle.test_report_run.specs.Run.{RunState, Step, after, after_file, counts_tests, disagrees, ended_at, ended_early, file_notes, notes_at, open_suite, opened, run_start, running_ends, running_over, settled_at, started_again, step, stray_ends, stray_over, stray_suite_notes, stray_test, suite_at, suite_place, tests_in, with_report, with_suite_at, without_tests}
+use Rattle.test_report_run.specs.Run.{RunState, Step, after, after_file, counts_tests, disagrees, ended_at, ended_early, file_notes, notes_at, open_suite, opened, running_ends, running_over, settled_at, started_again, step, stray_ends, stray_over, stray_suite_notes, stray_test, suite_at, suite_place, tests_in, with_report, with_suite_at, without_tests}
 use Rattle.test_report_run.specs.Run as run
 use Rattle.test_report_run.specs.Running.{RunningView, is_same, place_of_end, running_at}
 use Rattle.std.specs.List.{position, remove}

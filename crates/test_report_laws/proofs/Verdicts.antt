@@ -7,6 +7,7 @@ use Rattle.std.proofs.lemmas.Bool.{cases_lt}
 use Rattle.std.proofs.lemmas.List.Elements.{All-get_or}
 use Rattle.std.proofs.lemmas.List.Sums.{count_by-le-length, get_or-le-sum_by, sum_by-append, sum_by-cons, sum_by-le-sum_by, sum_by-remove, sum_by-set, sum_by_push}
 use Rattle.test_report_events.specs.Event.{EventView, SuiteEndView, SuiteStarts, SuiteEnds}
+use Rattle.test_report_run_notes.specs.Note.{Fails, NoteView, OutcomeView, TestIs, failed_of}
 use Rattle.test_report_laws.proofs.Books.{Holds, IsIn, holds-settled, holds-whole, position-in, with-books}
 use Rattle.test_report_laws.proofs.CargoReports.{known-at, only-told, ready}
 use Rattle.test_report_laws.proofs.FileEnds.{end-parts, reported_run}
@@ -17,13 +18,12 @@ use Rattle.test_report_laws.proofs.Sound.{all-known, all-sound, failed-rules}
 use Rattle.test_report_laws.proofs.Sums.{one-most}
 use Rattle.test_report_laws.proofs.Weights.{Keeps, has-number, keeps-line, numbered-end, numbered-line, numbered-ready, numbered-reported, ready-suites, unnumbered, weigh, weight_of}
 use Rattle.test_report_laws.specs.Run.{FailedVerdictShows, IsClean, IsSound, crashed_in, disagreements_in, failed_in, failed_verdicts_of, fails_by, is_crash, is_test, says_failed_verdict}
-use Rattle.test_report_run.specs.Note.{Fails, NoteView, OutcomeView, TestIs}
 use Rattle.test_report_run.specs.Others.{OthersView}
 use Rattle.test_report_run.specs.Over.{early_notes, last_notes}
 use Rattle.test_report_run.specs.Running.{RunningView}
 use Rattle.test_report_run.specs.Run.{RunState, Step, after, after_file, ended_at, ended_early, file_notes, has_failed, heard, is_cause, learned, tests_in, notes_at, open_suite, opened, settled_at, started_again, step, stray_suite_notes, suite_at, with_suite_at, without_tests}
 use Rattle.test_report_run.specs.Said.{no_lines}
-use Rattle.test_report_run.specs.Suite.{SuiteState, cancelled_by, failed_of, has_key, joined_by, outside_start, suite_start, with_line}
+use Rattle.test_report_run.specs.Suite.{SuiteState, cancelled_by, has_key, joined_by, outside_start, suite_start, with_line}
 use Rattle.test_report_laws.specs.Whole.{all_notes}
 use Rattle.test_report_laws.proofs.Types.{Said}
 

@@ -6,9 +6,9 @@ use Rattle.run_events_levels.specs.declared.levels.OutputOnTestFinished.{OutputO
 use Rattle.run_events_levels.specs.declared.levels.OutputStoreFinal.TheVariants as store
 use Rattle.run_events_results.specs.declared.results.CancelReason.{CancelReason}
 use Rattle.run_events_results.specs.declared.results.CancelReason.TheVariants as reason
+use Rattle.test_report_run_notes.specs.declared.finish.Finish.{Finish}
 use Rattle.test_report_forms.specs.Levels.{display_of, finished_output, levels_of, own_final_level, own_level, own_view}
 use Rattle.test_report_forms.specs.declared.options.Options.{Options}
-use Rattle.test_report_run.specs.declared.counted.Finish.{Finish}
 
 -- what is shown by the first row of the table that applies
 abbrev by-rows : Asked → (stopped below signal : Bool) → OutputOnTestFinished

@@ -2,10 +2,10 @@
 use Rattle.std.specs.Prelude.{◌≡◌, ◌++◌, ℕ, false, List, [], ◌∷◌, ⊤, codes}
 use Rattle.std.specs.List.{Contains, flat_map}
 use Rattle.template.specs.Clean.{HasNoControls}
+use Rattle.test_report_run_notes.specs.declared.note.RunEnd.{RunEnd}
 use Rattle.test_report_forms.specs.Entry.{EntryView}
 use Rattle.test_report_forms.specs.Text.{text_last, text_line}
 use Rattle.test_report_forms.specs.declared.options.Options.{Options}
-use Rattle.test_report_run.specs.declared.note.RunEnd.{RunEnd}
 
 -- the sequences that a terminal takes for a colour: red, yellow, the end of a colour, and green
 abbrev pub sequences : List (List ℕ)

@@ -3,14 +3,14 @@ use Rattle.std.specs.Prelude.{◌≡◌, ◌==◌, ◌||◌, ◌++◌, ℕ, Bool
 use Rattle.std.specs.List.{All, Contains, flat_map, join_with_byte, slice_split, starts_with}
 use Rattle.std.specs.Str.{NoCharPasses, chars, skip_leading_whitespace}
 use Rattle.template.specs.Shows.{HasPart}
+use Rattle.test_report_run_notes.specs.Note.{NoteView}
+use Rattle.test_report_run_notes.specs.declared.note.RunEnd.{RunEnd}
 use Rattle.test_report_engine.specs.Report.{all_entries}
 use Rattle.test_report_forms.specs.Entry.{EntryView, IsEntryOf}
 use Rattle.test_report_forms.specs.Github.{github_last, github_line}
 use Rattle.test_report_forms.specs.Names.{names_line}
 use Rattle.test_report_forms.specs.Text.{text_last, text_line}
 use Rattle.test_report_forms.specs.declared.options.Options.{Options}
-use Rattle.test_report_run.specs.Note.{NoteView}
-use Rattle.test_report_run.specs.declared.note.RunEnd.{RunEnd}
 
 -- the end of a line in a log: a line feed or a carriage return
 abbrev pub is_line_end : ℕ → Bool

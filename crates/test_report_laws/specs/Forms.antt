@@ -13,10 +13,12 @@ use Rattle.template.specs.Shows.{HasPart, items_at}
 use Rattle.template.specs.Template.{Values, parts_text, text_of}
 use Rattle.template.specs.Tree.{TreeView}
 use Rattle.template.specs.declared.hole.Hole.TheVariants as hole
+use Rattle.test_report_run_notes.specs.Note.{NoteView}
+use Rattle.test_report_run_notes.specs.declared.note.RunEnd.{RunEnd}
 use Rattle.test_report_forms.specs.Entry.{EntryView, FlakyPassed, IsEntryOf, LinesDisagree, SuiteNotRun, SuiteOver, TestFailed, TestPassed, TestSkipped}
 use Rattle.test_report_forms.specs.Github.{github_last, github_line}
 use Rattle.test_report_forms.specs.Holes.{HoleView, PhraseView}
-use Rattle.test_report_forms.specs.Html.{failed_text, html_of, page_heading, page_holes, page_parts, page_phrases, problem_text, skip_text, suite_text, title_text}
+use Rattle.test_report_forms.specs.Html.{failed_text, flaky_text, html_of, page_heading, page_holes, page_parts, page_phrases, problem_text, skip_text, suite_text, title_text}
 use Rattle.test_report_forms.specs.Markdown.{details_text, markdown_heading, markdown_holes, markdown_of, markdown_parts, markdown_phrases, more_tests, more_text, row_text, shown_tests, summary_of_run}
 use Rattle.test_report_forms.specs.Model.{FailedView, ReportView, cause_line, failures_of, report_of}
 use Rattle.test_report_forms.specs.Names.{names_line}
@@ -30,9 +32,7 @@ use Rattle.test_report_forms.specs.Words.{outcome_word, run_numbers}
 use Rattle.test_report_forms.specs.declared.options.Options.{Options}
 use Rattle.test_report_engine.specs.Progress.{progress_text}
 use Rattle.test_report_laws.specs.Commands.{AreOfNotes, annotated_of_run}
-use Rattle.test_report_run.specs.Note.{NoteView}
 use Rattle.test_report_run.specs.Run.{RunState}
-use Rattle.test_report_run.specs.declared.note.RunEnd.{RunEnd}
 
 -- a control character, or a character that changes the direction of writing
 abbrev pub is_unseen : ℕ → Bool
@@ -127,16 +127,18 @@ abbrev pub HtmlSaysEnd : Type 0
 HtmlSaysEnd = (o : Options) (entries : List EntryView) (end : RunEnd) → SaysEnd page_heading end (html_of o entries end)
 
 -- a page has what its section of failed tests renders of each failed test, with the status, the suite and the name one after another, what its list
--- of problems renders of each problem, and a row for each suite and for each skipped test that has a reason
+-- of problems renders of each problem, and a row for each suite, for each skipped test that has a reason and for each test that passed after several
+-- attempts
 pub record HasItems (report : ReportView) (page : List ℕ) : Type 0 where
   pub failed : All (λ t. HasPart page (failed_text t)) report.failed
   pub titles : All (λ t. HasPart page (title_text t)) report.failed
   pub problems : All (λ p. HasPart page (problem_text p)) report.problems
   pub suites : All (λ r. HasPart page (suite_text r)) report.suites
   pub skipped : All (λ t. HasPart page (skip_text t)) report.skipped
+  pub flaky : All (λ t. HasPart page (flaky_text t)) report.flaky
 
--- What the form for a browser writes has the values of each failed test together, each problem in the list of problems, and each suite and each
--- skipped test that has a reason in a row.
+-- What the form for a browser writes has the values of each failed test together, each problem in the list of problems, and each suite, each
+-- skipped test that has a reason and each test that passed after several attempts in a row.
 abbrev pub HtmlShowsItems : Type 0
 HtmlShowsItems = (o : Options) (entries : List EntryView) (end : RunEnd) → HasItems (report_of page_limits o entries end) (html_of o entries end)
 

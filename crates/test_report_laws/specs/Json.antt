@@ -4,10 +4,10 @@ use Rattle.json.specs.Json.{Items, Json, Members, array, boolean, document, item
 use Rattle.json.specs.Print.{IsNumber}
 use Rattle.json.specs.Tree.{depth}
 use Rattle.serde_json.specs.Read.{max_depth, of_json, read}
+use Rattle.test_report_run_notes.specs.declared.note.RunEnd.{RunEnd}
 use Rattle.test_report_forms.specs.Entry.{EntryView}
 use Rattle.test_report_forms.specs.Json.{json_of, json_written}
 use Rattle.test_report_laws.specs.Commands.{HasNoMarks}
-use Rattle.test_report_run.specs.declared.note.RunEnd.{RunEnd}
 use Rattle.test_report_forms.specs.declared.options.Options.{Options}
 
 -- What the form in JSON writes has no command of a CI system.

@@ -9,6 +9,8 @@ use Rattle.template.specs.Elements.{elements_in}
 use Rattle.template.specs.Reader.{read_tree}
 use Rattle.template.specs.Shows.{HasPart}
 use Rattle.template.specs.Tree.{TreeView, Trees}
+use Rattle.test_report_run_notes.specs.Note.{FailureView, TestNoteView}
+use Rattle.test_report_run_notes.specs.declared.note.RunEnd.{RunEnd}
 use Rattle.test_report_forms.specs.Entry.{EntryView, FlakyPassed, LinesDisagree, SuiteNotRun, SuiteOver, TestFailed, TestPassed, TestSkipped}
 use Rattle.test_report_forms.specs.Junit.{junit_of, junit_parts, junit_suites, no_tests_case, values_at_end, xml_header}
 use Rattle.test_report_forms.specs.JunitCase.{CaseView, case_of_cause, failed_case, own_name}
@@ -18,8 +20,6 @@ use Rattle.test_report_forms.specs.JunitTree.{IsCaseElement, IsRunElement, IsSui
 use Rattle.test_report_forms.specs.Model.{CauseView, cause_of_entry, no_tests_ran, suite_name}
 use Rattle.test_report_forms.specs.Why.{WhyView}
 use Rattle.test_report_forms.specs.declared.options.Options.{Options}
-use Rattle.test_report_run.specs.Note.{FailureView, TestNoteView}
-use Rattle.test_report_run.specs.declared.note.RunEnd.{RunEnd}
 
 -- What JUnit's form writes has no control characters.
 abbrev pub JunitHasNoControls : Type 0

@@ -6,6 +6,10 @@ use Rattle.run_events_settings.specs.Config.{is_final_display}
 use Rattle.run_events_levels.specs.declared.levels.OutputOnTestFinished.{OutputOnTestFinished}
 use Rattle.run_events_levels.specs.declared.levels.OutputStoreFinal.{OutputStoreFinal}
 use Rattle.run_events_levels.specs.declared.levels.OutputStoreFinal.TheVariants as store
+use Rattle.test_report_run_notes.specs.Finish.{finish_for}
+use Rattle.test_report_run_notes.specs.Note.{NoteView, TestNoteView}
+use Rattle.test_report_run_notes.specs.declared.finish.Finish.TheVariants.{Passed}
+use Rattle.test_report_run_notes.specs.declared.note.RunEnd.{RunEnd}
 use Rattle.test_report_forms.specs.Entry.{EntryView, FlakyPassed, IsEntryOf, LinesDisagree, SuiteNotRun, SuiteOver, TestFailed, TestPassed, TestSkipped, entry_view}
 use Rattle.test_report_forms.specs.Github.{cause_message, github_last, github_line, message, named_why, properties, title_property}
 use Rattle.test_report_forms.specs.Levels.{finished_output, has_line, shown_if, skipped_output}
@@ -21,10 +25,6 @@ use Rattle.test_report_forms.specs.Words.{disagreement_line, failed_word, not_ru
 use Rattle.test_report_forms.specs.declared.entry.Entry.{Entry}
 use Rattle.test_report_forms.specs.declared.options.Options.{Options}
 use Rattle.test_report_laws.specs.Status.{RanNoTests}
-use Rattle.test_report_run.specs.Counted.{finish_for}
-use Rattle.test_report_run.specs.Note.{NoteView, TestNoteView}
-use Rattle.test_report_run.specs.declared.counted.Finish.TheVariants.{Passed}
-use Rattle.test_report_run.specs.declared.note.RunEnd.{RunEnd}
 use Rattle.test_report_forms.specs.ShownWhy.{shown_why, text_why}
 use Rattle.test_report_forms.specs.WhyLines.{why_lines}
 

@@ -9,6 +9,8 @@ use Rattle.run_events_levels.specs.declared.levels.FinalStatusLevel.TheVariants 
 use Rattle.run_events_levels.specs.declared.levels.StatusLevel.TheVariants as level
 use Rattle.run_events_settings.specs.Config.{is_final_display, is_immediate_display}
 use Rattle.test_report_events.specs.Event.{EventView, WithStatus}
+use Rattle.test_report_run_notes.specs.Note.{text_view}
+use Rattle.test_report_run_notes.specs.declared.note.RunEnd.{RunEnd}
 use Rattle.test_report_forms.specs.Entry.{EntryView, IsEntryOf}
 use Rattle.test_report_forms.specs.Github.{github_last, github_line}
 use Rattle.test_report_forms.specs.Html.{html_of}
@@ -24,11 +26,9 @@ use Rattle.test_report_forms.specs.declared.files.FileTexts.{FileTexts}
 use Rattle.test_report_forms.specs.declared.options.Options.{Options}
 use Rattle.test_report_laws.specs.Run.{passed_in}
 use Rattle.template.specs.Tree.{TreeView}
-use Rattle.test_report_run.specs.Note.{text_view}
 use Rattle.test_report_run.specs.Run.{RunState, end_of}
 use Rattle.test_report_laws.specs.Status.{IsInOrder, RanNoTests, Succeeds}
 use Rattle.test_report_laws.specs.Whole.{all_notes, whole_end}
-use Rattle.test_report_run.specs.declared.note.RunEnd.{RunEnd}
 use Rattle.test_report_engine.specs.Lines.{AreEventsOf, InputView}
 use Rattle.test_report_engine.specs.Report.{AreEntriesOf, AreTexts, IsReport, all_entries}
 

@@ -7,18 +7,18 @@ use Rattle.test_report_events.specs.Event.{EventView, SuiteEndView, TestEndView,
 use Rattle.test_report_events.specs.declared.event.CargoFailure.{CargoFailure}
 use Rattle.test_report_events.specs.declared.event.TestResult.{TestResult}
 use Rattle.test_report_events.specs.declared.event.TestResult.TheVariants.{Ok, Failed, Ignored}
+use Rattle.test_report_run_notes.specs.Note.{CrashView, Disagrees, Fails, FlakyEnds, HasCrashed, HasFailed, HasNoEnd, HasTimedOut, IsFlaky, IsNotRun, IsSkipped, KindView, NoteView, OutcomeView, Passes, SuiteIs, SuiteNoteView, TestIs, TestNoteView, failed_of}
+use Rattle.test_report_run_notes.specs.declared.note.RunEnd.{RunEnd}
+use Rattle.test_report_run_notes.specs.declared.note.SaidNumbers.{SaidNumbers}
 use Rattle.test_report_run.specs.Events.{is_event}
 use Rattle.test_report_run.specs.Ended.{failure_of}
-use Rattle.test_report_run.specs.Note.{CrashView, Disagrees, Fails, FlakyEnds, HasCrashed, HasFailed, HasNoEnd, HasTimedOut, IsFlaky, IsNotRun, IsSkipped, KindView, NoteView, OutcomeView, Passes, SuiteIs, SuiteNoteView, TestIs, TestNoteView}
 use Rattle.test_report_run.specs.Others.{OthersView}
 use Rattle.test_report_run.specs.Over.{crash_again, early_notes, last_notes}
 use Rattle.test_report_run.specs.Run.{RunState, counts_tests, file_notes, has_failed, is_disagreement, notes_at, open_suite, run_start, told}
 use Rattle.test_report_run.specs.Running.{RunningView, ends_in_number, without_number}
 use Rattle.test_report_run.specs.Said.{numbers_of}
-use Rattle.test_report_run.specs.Suite.{SuiteState, failed_of}
+use Rattle.test_report_run.specs.Suite.{SuiteState}
 use Rattle.test_report_laws.specs.Whole.{IsFileEndOf, IsLineOf, all_notes, notes_of, run_after, run_after_files, run_at_end, whole_end}
-use Rattle.test_report_run.specs.declared.note.RunEnd.{RunEnd}
-use Rattle.test_report_run.specs.declared.note.SaidNumbers.{SaidNumbers}
 
 -- One failed test for each line that says so.
 

@@ -2,10 +2,10 @@
 use Rattle.std.specs.Prelude.{◌≡◌, ◌++◌, ◌∷◌, [], ℕ, List}
 use Rattle.std.specs.List.{fold}
 use Rattle.test_report_events.specs.Event.{EventView}
-use Rattle.test_report_run.specs.Note.{NoteView}
+use Rattle.test_report_run_notes.specs.Note.{NoteView}
 use Rattle.test_report_run.specs.Run.{RunState, after, after_file, end_of, file_notes, run_start}
 pub use Rattle.test_report_run.specs.Run.{notes_of, run_after}
-use Rattle.test_report_run.specs.declared.note.RunEnd.{RunEnd}
+use Rattle.test_report_run_notes.specs.declared.note.RunEnd.{RunEnd}
 
 -- what a file makes known, up to its end
 abbrev pub notes_of_file : RunState → List EventView → List NoteView

@@ -103,7 +103,8 @@ pub fn names_causes()
 /// each other there is next to each other in the page, with the values in their places. It has the status, the suite and
 /// the name of each failed test one after another, and with the reason and the output as its section of failed tests
 /// renders them. It has each problem as its list of problems renders it, a row with the name, the numbers and the time of
-/// each suite, and a row with the name and the reason of each skipped test that has a reason.
+/// each suite, a row with the name and the reason of each skipped test that has a reason, and a row with the name, the
+/// attempts and the time of each test that passed after several attempts.
 ///
 /// It also has, somewhere in its text, every value of the report that its template has a place for (`page_holes`),
 /// escaped as for this place.

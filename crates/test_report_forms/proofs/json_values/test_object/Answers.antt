@@ -1,8 +1,8 @@
 use Rattle.std.proofs.Common.{◌∙◌, ◌++◌, Bool, List, Option, ap, codes, ℕ}
+use Rattle.test_report_run_notes.specs.Note.{test_view}
 use Rattle.test_report_forms.specs.JsonText.{Member, more_members}
 use Rattle.test_report_forms.specs.JsonValues.{flag_member, number_member, test_members, text_member, time_member}
 use Rattle.test_report_forms.specs.Title.{title_name}
-use Rattle.test_report_run.specs.Note.{test_view}
 use Rattle.test_report_forms.proofs.json_values.test_object.Goals as goal
 
 -- the members by their values

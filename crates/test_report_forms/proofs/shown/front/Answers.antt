@@ -1,6 +1,6 @@
 use Rattle.std.proofs.Common.{◌∙◌, ap, arith}
 use Rattle.std.specs.List.{slice_range}
-use Rattle.test_report_run.proofs.Boundaries.{floor-is}
+use Rattle.test_report_run_notes.proofs.Boundaries.{floor-is}
 use Rattle.test_report_forms.proofs.shown.front.Goals as goal
 
 pub returns : goal.returns

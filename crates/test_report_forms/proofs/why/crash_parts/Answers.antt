@@ -1,8 +1,8 @@
 use Rattle.std.proofs.Common.{◌∙◌, ◌++◌, ◌∷◌, ap, map, option_map, option_to_list, string_bytes}
 use Rattle.std.proofs.lemmas.List.{map-append}
+use Rattle.test_report_run_notes.specs.Note.{crash_view}
 use Rattle.test_report_forms.proofs.Joins.{one-and-more}
 use Rattle.test_report_forms.specs.Why.{crash_words, said_by_prints}
-use Rattle.test_report_run.specs.Note.{crash_view}
 use Rattle.test_report_forms.proofs.why.crash_parts.Goals as goal
 
 pub returns : goal.returns

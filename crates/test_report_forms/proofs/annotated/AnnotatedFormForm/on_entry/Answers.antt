@@ -1,9 +1,9 @@
 use Rattle.std.proofs.Common.{◌++◌, ℕ, List, ap}
 use Rattle.std.proofs.lemmas.Result.{on_ok_weaker}
+use Rattle.test_report_run_notes.specs.declared.note.RunEnd.{RunEnd}
 use Rattle.test_report_forms.specs.Entry.{EntryView}
 use Rattle.test_report_forms.specs.Github.{github_last}
 use Rattle.test_report_forms.proofs.annotated.AnnotatedFormForm.on_entry.Goals as goal
-use Rattle.test_report_run.specs.declared.note.RunEnd.{RunEnd}
 
 pub returns-clause-same_line : goal.returns-clause-same_line
 returns-clause-same_line c = on_ok_weaker c.on_entry-2.result (λ same. c.in_ok-on_entry.ensures.same_line) c.on_entry-2.ensures.same_line

@@ -3,9 +3,9 @@ use Rattle.std.proofs.Common.{◌≡◌, ◌∙◌, ap, length, map, sym}
 use Rattle.std.specs.BTreeMap.{insert_entry}
 use Rattle.std.specs.List.{insert}
 use Rattle.std.specs.Map.{values_of}
-use Rattle.test_report_run.proofs.InOrder.{placed-after, values-more}
-use Rattle.test_report_run.proofs.Places.{map-insert, position_or_len-map}
-use Rattle.test_report_run.specs.InOrder.{place_cmp}
+use Rattle.test_report_run_notes.proofs.InOrder.{placed-after, values-more}
+use Rattle.test_report_run_notes.proofs.Places.{map-insert, position_or_len-map}
+use Rattle.test_report_run_notes.specs.InOrder.{place_cmp}
 use Rattle.test_report_forms.specs.List.{ends_before, flaky_line_view}
 use Rattle.test_report_forms.proofs.flaky_lines.FlakyLines.insert.Goals as goal
 

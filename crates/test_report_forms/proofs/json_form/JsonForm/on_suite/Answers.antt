@@ -1,8 +1,8 @@
 use Rattle.std.proofs.Common.{◌∙◌, ap, map, option_map, refl, string_bytes, sym}
 use Rattle.std.proofs.lemmas.List.{map-append}
+use Rattle.test_report_run_notes.specs.Note.{suite_view}
 use Rattle.test_report_forms.proofs.JsonStates.{no_suite, suite_ended}
 use Rattle.test_report_forms.specs.Suites.{suite_of}
-use Rattle.test_report_run.specs.Note.{suite_view}
 use Rattle.test_report_forms.proofs.json_form.JsonForm.on_suite.Goals as goal
 
 pub returns-in_ok-push-clause-state : goal.returns-in_ok-push-clause-state

@@ -9,6 +9,7 @@ use Rattle.test_report_forms.specs.Entry.{entry_view}
 use Rattle.test_report_forms.proofs.Both.{on_ok_both}
 use Rattle.test_report_forms.specs.List.{KeyedLine, kept_lines, put_falling}
 use Rattle.test_report_forms.specs.Model.{problem_of_entry, row_of_entry, timed_entry}
+use Rattle.test_report_forms.specs.Flaky.{flaky_of_entry}
 use Rattle.test_report_forms.specs.Skipped.{skipped_of_entry}
 use Rattle.test_report_forms.specs.WholeOutput.{most_of}
 use Rattle.test_report_forms.proofs.model.ReportModel.on_entry.Goals as goal
@@ -33,5 +34,6 @@ returns-clause-knows c =
           ∙ ap (fold (put_falling 10) []) (sym (filter_map-more timed_entry entries (entry_view c.args.entry.now))))));
       most = kept.1 ∙ known.most;
       skipped = kept-more skipped_of_entry entries (entry_view c.args.entry.now) _ _ known.skipped c.in_ok-keep_skipped.ensures;
+      flaky = kept-more flaky_of_entry entries (entry_view c.args.entry.now) _ _ known.flaky c.in_ok-keep_flaky.ensures;
     })
     (on_ok_both _ _ c.keep_time.result c.keep_time.ensures.keeps c.keep_time.ensures.most)
