@@ -119,32 +119,14 @@ pub(crate) fn command<'a>(alloc: Global) -> Result<Command<'a>, AllocError> {
         .arg(choice(alloc, "no-tests", "ACTION", ACTIONS).help(
             "Whether the exit status is 1 (`fail`) or 0 (`pass`) if no test ran and nothing else is wrong",
         ))?;
-    Ok(with_display(alloc, command)?.after_help(AFTER_HELP))
+    let command = with_levels(alloc, with_streams(alloc, command)?)?;
+    let command = with_slow_tests(alloc, with_outputs(alloc, command)?)?;
+    let command = with_reasons(alloc, command)?;
+    Ok(command.after_help(AFTER_HELP))
 }
 
-/// Adds the options that say how the report is shown.
-fn with_display<'a>(alloc: Global, command: Command<'a>) -> Result<Command<'a>, AllocError> {
-    let limit = Arg::new(alloc, "limit")
-        .long("limit")
-        .value_name("BYTES")
-        .help(
-            "Show at most BYTES bytes of the reason of each failed test, or all if it is `none` [default: 4096]",
-        );
-    let slowest = Arg::new(alloc, "slowest")
-        .long("slowest")
-        .value_name("N")
-        .value_parser(value_parser!(usize))
-        .help("List the N slowest tests, too, at the end of the form `text` [default: 0]");
-    let slow = Arg::new(alloc, "slow")
-        .long("slow")
-        .value_name("SECONDS")
-        .help(
-            "Count a test as slow if its time is at least SECONDS, a decimal number [default: 60]",
-        );
-    let raw = Arg::new(alloc, "raw")
-        .long("raw")
-        .action(ArgAction::SetTrue)
-        .help("Print control characters in reasons as the tests wrote them, in the form `text`");
+/// Adds the options for what is written to a terminal, and for the lines that are no events.
+fn with_streams<'a>(alloc: Global, command: Command<'a>) -> Result<Command<'a>, AllocError> {
     command
         .arg(choice(alloc, "color", "WHEN", TIMES).help(
             "Colour words such as FAIL; `auto` does so if standard output is a terminal and NO_COLOR is absent or empty",
@@ -154,7 +136,12 @@ fn with_display<'a>(alloc: Global, command: Command<'a>) -> Result<Command<'a>, 
         ))?
         .arg(choice(alloc, "others", "WHEN", TIMES).help(
             "Write the lines that are no events to standard error; `auto` does so for standard input, and not for files",
-        ))?
+        ))
+}
+
+/// Adds the options that say which tests are shown.
+fn with_levels<'a>(alloc: Global, command: Command<'a>) -> Result<Command<'a>, AllocError> {
+    command
         .arg(choice_with(alloc, "status-level", "LEVEL", STATUS_LEVELS, "fail").help(
             "Write a line for each test of this level or a more important one when it ends, in the form `text`",
         ))?
@@ -167,7 +154,12 @@ fn with_display<'a>(alloc: Global, command: Command<'a>) -> Result<Command<'a>, 
         )
         .help(
             "List the tests of this level and of more important ones at the end of the form `text`",
-        ))?
+        ))
+}
+
+/// Adds the options that say when the output of tests is shown, and whether there are annotations.
+fn with_outputs<'a>(alloc: Global, command: Command<'a>) -> Result<Command<'a>, AllocError> {
+    command
         .arg(choice(alloc, "failure-output", "WHEN", OUTPUT_DISPLAYS).help(
             "When the form `text` shows why tests failed: when they end, in the list at the end, both, or never",
         ))?
@@ -176,14 +168,42 @@ fn with_display<'a>(alloc: Global, command: Command<'a>) -> Result<Command<'a>, 
         ))?
         .arg(choice(alloc, "annotations", "WHEN", ANNOTATIONS).help(
             "Write annotations for GitHub between the lines of the form `text`; `auto` does so if GITHUB_ACTIONS is `true`",
-        ))?
-        .arg(slow)?
-        .arg(slowest)?
-        .arg(limit)?
-        .arg(choice(alloc, "output", "HOW", DISPLAYS).help(
-            "How much of a failed test's output is shown: the part that explains the failure (`short`), all (`whole`), or all if that is within the limit",
-        ))?
-        .arg(raw)
+        ))
+}
+
+/// Adds the options for slow tests.
+fn with_slow_tests<'a>(alloc: Global, command: Command<'a>) -> Result<Command<'a>, AllocError> {
+    let slow = Arg::new(alloc, "slow")
+        .long("slow")
+        .value_name("SECONDS")
+        .help(
+            "Count a test as slow if its time is at least SECONDS, a decimal number [default: 60]",
+        );
+    let command = command.arg(slow)?;
+    let slowest = Arg::new(alloc, "slowest")
+        .long("slowest")
+        .value_name("N")
+        .value_parser(value_parser!(usize))
+        .help("List the N slowest tests, too, at the end of the form `text` [default: 0]");
+    command.arg(slowest)
+}
+
+/// Adds the options for how the reasons of failures are shown.
+fn with_reasons<'a>(alloc: Global, command: Command<'a>) -> Result<Command<'a>, AllocError> {
+    let limit = Arg::new(alloc, "limit")
+        .long("limit")
+        .value_name("BYTES")
+        .help(
+            "Show at most BYTES bytes of the reason of each failed test, or all if it is `none` [default: 4096]",
+        );
+    let command = command.arg(limit)?.arg(choice(alloc, "output", "HOW", DISPLAYS).help(
+        "How much of a failed test's output is shown: the part that explains the failure (`short`), all (`whole`), or all if that is within the limit",
+    ))?;
+    let raw = Arg::new(alloc, "raw")
+        .long("raw")
+        .action(ArgAction::SetTrue)
+        .help("Print control characters in reasons as the tests wrote them, in the form `text`");
+    command.arg(raw)
 }
 
 /// Returns an option that takes one of these values. The first is the default.

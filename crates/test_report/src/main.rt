@@ -48,7 +48,7 @@ use test_report_forms::markdown::MarkdownForm;
 use test_report_forms::names::NamesForm;
 use test_report_forms::options::Options;
 use test_report_forms::text::TextForm;
-use test_report_run::note::RunEnd;
+use test_report_run_notes::note::RunEnd;
 
 /// The settings of the program.
 #[derive(Clone, Copy)]

@@ -1,13 +1,15 @@
 //! Short callers for the first pages of libraries that no other file has.
 
-ghost use Rattle.std.specs.Prelude.{◌≡◌, ◌||◌, if◌then◌else◌, codes, is_none};
+ghost use Rattle.std.specs.Prelude.{◌≡◌, ◌||◌, if◌then◌else◌, codes, is_none, nat_lt};
 ghost use Rattle.run_events.specs.Config.{is_final_display, is_immediate_display};
 ghost use Rattle.run_events.specs.Progress.{remaining_of};
 ghost use Rattle.run_events.specs.Results.{status_succeeds, status_word};
+ghost use Rattle.test_report_run_notes.specs.Note.{failed_of};
 
 use run_events::config::TestOutputDisplay;
 use run_events::progress::StressProgress;
 use run_events::results::ExecutionResult;
+use test_report_run_notes::note::{RunEnd, failed_count};
 
 /// Returns true if the output of a test is displayed at any time.
 pub fn is_displayed(display: TestOutputDisplay) -> bool
@@ -32,4 +34,11 @@ pub fn word_of_end(end: ExecutionResult) -> &'static str
     } else {
         end.as_static_str()
     }
+}
+
+/// Returns true if a test of a run failed or was not run.
+pub fn lacks_success(end: &RunEnd) -> bool
+    ensures { result ≡ (nat_lt 0 (failed_of end.now.stats) || nat_lt 0 end.now.not_run) }
+{
+    failed_count(&end.stats) > 0 || end.not_run > 0
 }

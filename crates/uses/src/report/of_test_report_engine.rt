@@ -3,12 +3,12 @@
 ghost use Rattle.std.specs.Prelude.{◌≡◌, ◌↔◌, ◌∷◌, [], false, true, ℕ, IfOk, IfSome, IsErrOf, IsTrue, List};
 ghost use Rattle.std.specs.Io.KnownBytes.{Appends};
 ghost use Rattle.run_events_stats.specs.declared.outcome.run_outcome.RunOutcome.TheVariants as outcomes;
+ghost use Rattle.test_report_run_notes.specs.declared.note.RunEnd.{RunEnd};
 ghost use Rattle.test_report_engine.specs.Lines.{file};
 ghost use Rattle.test_report_engine.specs.Report.{IsReport};
 ghost use Rattle.test_report_engine.specs.declared.fault.Fault.TheVariants as faults;
 ghost use Rattle.test_report_forms.specs.Form.{lines};
 ghost use Rattle.test_report_forms.specs.Text.{text_last, text_line};
-ghost use Rattle.test_report_run.specs.declared.note.RunEnd.{RunEnd};
 
 use program_io::device::{Sink, Source};
 use run_events_stats::outcome::RunOutcome;

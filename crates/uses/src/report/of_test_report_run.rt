@@ -9,8 +9,8 @@ ghost use Rattle.test_report_run.specs.Run.{after_file, end_of, run_after, run_s
 use std::alloc::Global;
 use test_report_events::line::Line;
 use test_report_run::error::RunError;
-use test_report_run::note::RunEnd;
 use test_report_run::run::TestRun;
+use test_report_run_notes::note::RunEnd;
 
 /// Returns the sums and the outcome of a run that is one file with these lines.
 pub fn end_of_lines(alloc: Global, lines: &[&[u8]]) -> Result<RunEnd, RunError>

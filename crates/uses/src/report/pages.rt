@@ -11,7 +11,7 @@ use run_events_levels::levels::{FinalStatusLevel, StatusLevel};
 use run_events_settings::config::TestOutputDisplay;
 use std::{io, str};
 use test_report_forms::options::{Options, OutputDisplay};
-use test_report_run::note::{Disagreement, Note};
+use test_report_run_notes::note::{Disagreement, Note};
 
 const OPTIONS: Options = Options {
     limit: 4_096,

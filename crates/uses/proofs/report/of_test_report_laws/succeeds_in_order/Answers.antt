@@ -1,7 +1,7 @@
 use Rattle.std.proofs.Common.{◌≡◌, ◌↔◌, [], ◌∷◌, ◌∙◌, IsTrue, ap, rules, subst, sym}
 use Rattle.run_events_stats.specs.declared.outcome.run_outcome.RunOutcome.{RunOutcome}
 use Rattle.run_events_stats.specs.declared.outcome.run_outcome.RunOutcome.TheVariants as outcomes
-use Rattle.test_report_run.specs.declared.note.RunEnd.{RunEnd}
+use Rattle.test_report_run_notes.specs.declared.note.RunEnd.{RunEnd}
 use Rattle.test_report_engine.specs.Lines.{file}
 use Rattle.uses.proofs.WholeReports.{if_known, is-written}
 use Rattle.uses.proofs.report.of_test_report_laws.succeeds_in_order.Goals as goal
