@@ -65,3 +65,5 @@ pub mod test_report_forms;
     reason = "a set takes an allocator in the proved text, where there is no `Default` for it"
 )]
 pub mod test_report_run;
+#[doc(hidden)]
+pub mod test_report_run_notes;

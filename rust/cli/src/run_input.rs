@@ -15,7 +15,7 @@ use crate::test_report_engine::progress::progress_text;
 use crate::test_report_engine::report::Report;
 use crate::test_report_forms::files::FileTexts;
 use crate::test_report_forms::form::Form;
-use crate::test_report_run::note::RunEnd;
+use crate::test_report_run_notes::note::RunEnd;
 use std::cell::RefCell;
 use std::ffi::OsString;
 use std::fs::File;

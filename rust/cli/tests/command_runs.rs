@@ -1,9 +1,9 @@
 //! Runs of a command, call by call: how its output and its end disagree.
 
 use deodarsieve_cli::test_report_events::line::Line;
-use deodarsieve_cli::test_report_run::note::{CargoReport, CommandEnd, Disagreement, Note};
 use deodarsieve_cli::test_report_run::run::TestRun;
 use deodarsieve_cli::test_report_run::suite_names::SuiteNames;
+use deodarsieve_cli::test_report_run_notes::note::{CargoReport, CommandEnd, Disagreement, Note};
 
 /// The time in microseconds from which on a test is slow.
 const SLOW: u64 = 60_000_000;

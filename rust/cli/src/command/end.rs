@@ -1,6 +1,6 @@
 //! How a command ended.
 
-use crate::test_report_run::note::CommandEnd;
+use crate::test_report_run_notes::note::CommandEnd;
 use std::process::ExitStatus;
 
 /// Returns how a command with this status ended.

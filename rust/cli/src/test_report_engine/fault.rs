@@ -14,7 +14,7 @@ pub enum Fault {
     /// A write or a flush failed.
     Write,
 
-    /// A number is too large for its counter.
+    /// A number does not fit its counter, or a file has 2^64 - 1 bytes or more.
     CounterFull,
 }
 

@@ -11,9 +11,9 @@ use crate::test_report_engine::report::notes::{notes_of_end, notes_of_line, part
 use crate::test_report_forms::entry::Entry;
 use crate::test_report_forms::files::{FileForms, FileTexts};
 use crate::test_report_forms::form::Form;
-use crate::test_report_run::note::{CommandEnd, Note, RunEnd};
 use crate::test_report_run::run::TestRun;
 use crate::test_report_run::suite_names::SuiteNames;
+use crate::test_report_run_notes::note::{CommandEnd, Note, RunEnd};
 use bstr::ByteSlice;
 use deodarsieve::CancelReason;
 
@@ -58,8 +58,8 @@ impl<F: Form> Report<F> {
     ///
     /// - [`Fault::Read`] if and only if the source fails, and [`Fault::Write`] if and only if the sink
     ///   fails.
-    /// - [`Fault::CounterFull`] only if a number of the run does not fit its counter, or the file has 2^64 - 1 bytes or
-    ///   more.
+    /// - [`Fault::CounterFull`] only if [`TestRun`] has this error for a line of the file or for its end, or the file has
+    ///   2^64 - 1 bytes or more.
     pub fn read_file<R: Source, W: Sink, O: Sink>(
         &mut self,
         source: &mut R,
@@ -90,7 +90,8 @@ impl<F: Form> Report<F> {
     ///
     /// - [`Fault::Read`] if and only if the source fails, and [`Fault::Write`] if and only if the sink
     ///   fails.
-    /// - [`Fault::CounterFull`] only if a number of the run does not fit its counter.
+    /// - [`Fault::CounterFull`] only if [`TestRun`] has this error for a line that ends in these bytes or, if there are
+    ///   none, for the last line or the end of the file.
     pub fn read_piece<R: Source, W: Sink, O: Sink>(
         &mut self,
         source: &mut R,
@@ -135,7 +136,7 @@ impl<F: Form> Report<F> {
     /// command would have added to the report.
     ///
     /// - [`Fault::Write`] if and only if the sink fails.
-    /// - [`Fault::CounterFull`] only if a number of the run does not fit its counter.
+    /// - [`Fault::CounterFull`] only if [`TestRun`] has this error for the last line or for the end of the command.
     pub fn end_command<W: Sink, O: Sink>(
         &mut self,
         end: &CommandEnd,

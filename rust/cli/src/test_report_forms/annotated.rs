@@ -6,11 +6,11 @@ use crate::test_report_forms::form::Form;
 use crate::test_report_forms::github::GithubForm;
 use crate::test_report_forms::options::Options;
 use crate::test_report_forms::text::TextForm;
-use crate::test_report_run::note::RunEnd;
+use crate::test_report_run_notes::note::RunEnd;
 
-/// The form for people with the annotations of [`GithubForm`] between its lines: the annotations of the entries that one
-/// line of the input makes known come after the texts of all these entries, and the notice after the last line. So one
-/// log is read by people and by GitHub.
+/// The form for people with the annotations of [`GithubForm`] between its lines: the annotations of the entries that
+/// become known at once come after the texts of all these entries, and the notice after the last line. So one log is
+/// read by people and by GitHub.
 #[derive(Clone)]
 pub struct AnnotatedForm {
     text: TextForm,

@@ -4,7 +4,7 @@
 use crate::test_report_forms::explanation::{Found, explanation_in, found_in};
 use crate::test_report_forms::why::copied;
 use crate::test_report_forms::written::ten_written;
-use crate::test_report_run::note::{CargoReport, Disagreement};
+use crate::test_report_run_notes::note::{CargoReport, Disagreement};
 
 /// Returns what explains a disagreement. `None` if it is no failure of cargo, or if nothing explains it.
 pub(crate) fn disagreement_why(disagreement: &Disagreement) -> Option<String> {

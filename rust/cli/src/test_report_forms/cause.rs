@@ -5,7 +5,7 @@ use crate::test_report_events::event::TestResult;
 use crate::test_report_forms::entry::Entry;
 use crate::test_report_forms::junit_case::text_of;
 use crate::test_report_forms::shown::{push_line, push_name, push_name_and_space, push_text};
-use crate::test_report_run::note::{CommandEnd, Disagreement, NotRun, SaidNumbers};
+use crate::test_report_run_notes::note::{CommandEnd, Disagreement, NotRun, SaidNumbers};
 use std::rc::Rc;
 
 /// A disagreement, or a suite whose tests were not all run.

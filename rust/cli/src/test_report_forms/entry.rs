@@ -3,7 +3,7 @@
 
 use crate::test_report_forms::cargo_why::disagreement_why;
 use crate::test_report_forms::why::Why;
-use crate::test_report_run::note::{
+use crate::test_report_run_notes::note::{
     Disagreement, Failure, NotRun, Note, SuiteNote, TestNote, TestOutcome,
 };
 

@@ -8,7 +8,7 @@ use crate::test_report_forms::status::failed_status;
 use crate::test_report_forms::title::shown_name;
 use crate::test_report_forms::whole_output::{WholeOutput, whole_output};
 use crate::test_report_forms::why::Why;
-use crate::test_report_run::note::{Failure, TestNote};
+use crate::test_report_run_notes::note::{Failure, TestNote};
 use std::rc::Rc;
 
 /// A failed test. In its texts control characters are already escapes.

@@ -7,7 +7,7 @@ use crate::test_report_forms::html::HtmlForm;
 use crate::test_report_forms::json_form::JsonForm;
 use crate::test_report_forms::junit::JunitForm;
 use crate::test_report_forms::markdown::MarkdownForm;
-use crate::test_report_run::note::RunEnd;
+use crate::test_report_run_notes::note::RunEnd;
 
 /// The forms that are written to files at the end of a run. Each of them may be absent.
 #[derive(Clone)]

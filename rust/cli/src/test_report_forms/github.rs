@@ -11,7 +11,7 @@ use crate::test_report_forms::shown_why::{ShownWhy, push_why, shown_why};
 use crate::test_report_forms::summary::{outcome_text, push_summary};
 use crate::test_report_forms::title::push_title;
 use crate::test_report_forms::why::Why;
-use crate::test_report_run::note::{Failure, RunEnd, TestNote};
+use crate::test_report_run_notes::note::{Failure, RunEnd, TestNote};
 
 /// The form for the log of a workflow on GitHub: an annotation for each failed test, each disagreement and
 /// each suite whose tests were not all run, and at the end a notice with the summary. Every line is a

@@ -9,7 +9,7 @@ use crate::test_report_forms::model::ReportModel;
 use crate::test_report_forms::options::Options;
 use crate::test_report_forms::page_template::PAGE;
 use crate::test_report_forms::values::report_values;
-use crate::test_report_run::note::RunEnd;
+use crate::test_report_run_notes::note::RunEnd;
 
 /// The form for a browser: one page without scripts or outside resources, written at the end.
 #[derive(Clone)]

@@ -14,7 +14,7 @@ use crate::test_report_forms::open_suites::OpenSuites;
 use crate::test_report_forms::open_suites::name::name_of;
 use crate::test_report_forms::options::Options;
 use crate::test_report_forms::skipped_test::skip_reason;
-use crate::test_report_run::note::{RunEnd, SuiteNote};
+use crate::test_report_run_notes::note::{RunEnd, SuiteNote};
 use std::rc::Rc;
 
 /// The form for other programs: one object of JSON, written at the end. It keeps each test, suite and problem as

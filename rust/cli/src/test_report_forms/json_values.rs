@@ -12,7 +12,7 @@ use crate::test_report_forms::shown_why::{ShownWhy, push_hidden, shown_why};
 use crate::test_report_forms::summary::outcome_text;
 use crate::test_report_forms::title::shown_name;
 use crate::test_report_forms::why::Why;
-use crate::test_report_run::note::{
+use crate::test_report_run_notes::note::{
     Failure, FailureKind, RunEnd, SuiteNote, TestNote, failed_count,
 };
 use deodarsieve::RunStats;

@@ -13,7 +13,7 @@ use crate::test_report_forms::model::no_tests_ran;
 use crate::test_report_forms::open_suites::name::name_of;
 use crate::test_report_forms::open_suites::{OpenSuites, Suite};
 use crate::test_report_forms::options::Options;
-use crate::test_report_run::note::{RunEnd, SuiteNote};
+use crate::test_report_run_notes::note::{RunEnd, SuiteNote};
 use std::rc::Rc;
 
 /// The line of a run in which no test ran.

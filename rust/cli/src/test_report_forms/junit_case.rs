@@ -10,7 +10,7 @@ use crate::test_report_forms::shown::{push_line, push_name, shown_whole};
 use crate::test_report_forms::skipped_test::skip_reason;
 use crate::test_report_forms::title::shown_name;
 use crate::test_report_forms::why::Why;
-use crate::test_report_run::note::{Failure, FailureKind, TestNote};
+use crate::test_report_run_notes::note::{Failure, FailureKind, TestNote};
 use std::rc::Rc;
 
 /// The name of the run, and of the suite of causes that name no suite.

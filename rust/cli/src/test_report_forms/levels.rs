@@ -2,7 +2,7 @@
 //! What the form for people shows of a test, by the levels of the layer.
 
 use crate::test_report_forms::options::Options;
-use crate::test_report_run::counted::{Finish, finished_test};
+use crate::test_report_run_notes::finish::{Finish, finished_test};
 use deodarsieve::{
     CancelReason, ExecutionResultDescription, FinalStatusLevel, FinishedTest, OutputOnTestFinished,
     StatusLevel, StatusLevels, TestOutputDisplay,

@@ -13,8 +13,8 @@ use crate::test_report_forms::text_why::text_why;
 use crate::test_report_forms::title::push_title;
 use crate::test_report_forms::why::Why;
 use crate::test_report_forms::why_lines::push_why_lines;
-use crate::test_report_run::counted::Finish;
-use crate::test_report_run::note::{Failure, TestNote};
+use crate::test_report_run_notes::finish::Finish;
+use crate::test_report_run_notes::note::{Failure, TestNote};
 use deodarsieve::{FinalStatusLevel, OutputStoreFinal};
 
 /// The column in which the status of a test in the list ends.

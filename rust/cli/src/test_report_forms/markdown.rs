@@ -8,7 +8,7 @@ use crate::test_report_forms::markdown_template::MARKDOWN;
 use crate::test_report_forms::markdown_values::summary_values;
 use crate::test_report_forms::model::ReportModel;
 use crate::test_report_forms::options::Options;
-use crate::test_report_run::note::RunEnd;
+use crate::test_report_run_notes::note::RunEnd;
 
 /// The form for the summary of a workflow on GitHub: a part of a page in Markdown, written at the end.
 #[derive(Clone)]

@@ -13,7 +13,7 @@ use crate::test_report_forms::summary::outcome_text;
 use crate::test_report_forms::values::{
     failed_values, one_text, one_word, problem_items, run_values,
 };
-use crate::test_report_run::note::RunEnd;
+use crate::test_report_run_notes::note::RunEnd;
 use deodarsieve::RunOutcome;
 
 /// The summary shows failed tests until their rows and details have this number of bytes. GitHub shows a summary of at most
@@ -31,6 +31,7 @@ pub(crate) fn summary_values(model: ReportModel, end: &RunEnd) -> Vec<Value> {
         suites: _,
         slowest: _,
         skipped: _,
+        flaky: _,
     } = model;
     let count = failed.len();
     let shown = shown_items(failed);

@@ -22,7 +22,7 @@
 //! use deodarsieve_cli::test_report_forms::form::Form;
 //! use deodarsieve_cli::test_report_forms::options::{Options, OutputDisplay};
 //! use deodarsieve_cli::test_report_forms::text::TextForm;
-//! use deodarsieve_cli::test_report_run::note::{Disagreement, Note};
+//! use deodarsieve_cli::test_report_run_notes::note::{Disagreement, Note};
 //!
 //! fn text_of_note(note: &Note, options: Options) -> String {
 //!     let entry = Entry::of(note);
@@ -59,6 +59,7 @@ mod explanation;
 mod failed_test;
 pub mod files;
 mod flaky_lines;
+mod flaky_test;
 pub mod form;
 pub mod github;
 pub mod html;

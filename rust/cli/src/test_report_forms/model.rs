@@ -4,6 +4,7 @@
 use crate::test_report_forms::cause::{Problem, cause_of};
 use crate::test_report_forms::entry::Entry;
 use crate::test_report_forms::failed_test::{FailedTest, shown_failure};
+use crate::test_report_forms::flaky_test::FlakyTest;
 use crate::test_report_forms::junit_case::shared_text;
 use crate::test_report_forms::numbers::Numbers;
 use crate::test_report_forms::options::Options;
@@ -12,7 +13,7 @@ use crate::test_report_forms::skipped_test::SkippedTest;
 use crate::test_report_forms::slowest::Slowest;
 use crate::test_report_forms::title::push_title;
 use crate::test_report_forms::whole_output::{OutputLimits, room_after};
-use crate::test_report_run::note::{SuiteNote, TestNote};
+use crate::test_report_run_notes::note::{SuiteNote, TestNote};
 use deodarsieve::RunOutcome;
 use std::rc::Rc;
 
@@ -71,6 +72,9 @@ pub struct ReportModel {
 
     /// The skipped tests that have a reason.
     pub(crate) skipped: Vec<SkippedTest>,
+
+    /// The tests that passed after several attempts.
+    pub(crate) flaky: Vec<FlakyTest>,
 }
 
 impl ReportModel {
@@ -96,6 +100,7 @@ impl ReportModel {
             suites: Vec::new(),
             slowest: Slowest::new(SLOWEST),
             skipped: Vec::new(),
+            flaky: Vec::new(),
         }
     }
 
@@ -107,6 +112,7 @@ impl ReportModel {
         keep_problem(&mut self.problems, entry);
         keep_suite(&mut self.suites, entry);
         keep_skipped(&mut self.skipped, entry);
+        keep_flaky(&mut self.flaky, entry);
         keep_time(&mut self.slowest, entry);
     }
 
@@ -157,6 +163,15 @@ fn keep_skipped(skipped: &mut Vec<SkippedTest>, entry: &Entry<'_>) {
         && let Some(shown) = SkippedTest::of(test)
     {
         skipped.push(shown);
+    }
+}
+
+/// Keeps the test of an entry, if it passed after several attempts.
+fn keep_flaky(flaky: &mut Vec<FlakyTest>, entry: &Entry<'_>) {
+    if let Entry::Passed(test) = entry
+        && let Some(shown) = FlakyTest::of(test)
+    {
+        flaky.push(shown);
     }
 }
 

@@ -4,7 +4,7 @@
 use crate::test_report_forms::entry::Entry;
 use crate::test_report_forms::form::Form;
 use crate::test_report_forms::shown::push_line;
-use crate::test_report_run::note::RunEnd;
+use crate::test_report_run_notes::note::RunEnd;
 
 /// The form that writes the name of each failed test, one on each line.
 #[derive(Clone)]

@@ -1,7 +1,7 @@
 // Made by tools/erase from crates/test_report_forms/src/numbers.rt. Do not edit.
 //! How many tests of a suite or of a run passed, and how many did not.
 
-use crate::test_report_run::note::{RunEnd, SuiteNote, failed_count};
+use crate::test_report_run_notes::note::{RunEnd, SuiteNote, failed_count};
 use deodarsieve::RunStats;
 
 /// How many tests passed, and how many did not.

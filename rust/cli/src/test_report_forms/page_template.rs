@@ -98,7 +98,16 @@ td .bar { margin-top: 0.45rem; }
 </details>
 {{/output}}</details>
 {{/failed}}</section>
-{{/failures}}{{#suites}}<section>
+{{/failures}}{{#flaky_tests}}<section>
+<h2>Flaky tests</h2>
+<table>
+<thead><tr><th scope="col">Test</th><th scope="col">Attempts</th><th scope="col" class="time">Time</th></tr></thead>
+<tbody>
+{{#test}}<tr><th scope="row">{{name}}</th><td>{{attempts}}</td><td class="time">{{#time}}{{seconds}}s{{/time}}{{^time}}–{{/time}}</td></tr>
+{{/test}}</tbody>
+</table>
+</section>
+{{/flaky_tests}}{{#suites}}<section>
 <h2>Suites</h2>
 <table>
 <thead><tr><th scope="col">Suite</th><th scope="col">Tests</th><th scope="col" class="time">Time</th></tr></thead>

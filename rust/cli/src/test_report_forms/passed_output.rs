@@ -5,7 +5,7 @@ use crate::test_report_forms::lines::without_returns;
 use crate::test_report_forms::options::Options;
 use crate::test_report_forms::shown::{front, push_indented};
 use crate::test_report_forms::why_lines::push_more;
-use crate::test_report_run::note::TestOutcome;
+use crate::test_report_run_notes::note::TestOutcome;
 
 /// Returns the output of a test that passed, without the white space at its end, or `None` if it has none.
 pub(crate) fn passed_output(outcome: &TestOutcome) -> Option<&str> {

@@ -6,7 +6,7 @@ use crate::test_report_forms::lines::{first_line, without_return};
 use crate::test_report_forms::short::other_thread;
 use crate::test_report_forms::title::shown_name;
 use crate::test_report_forms::why::{is_crash, output_of};
-use crate::test_report_run::note::{Failure, TestNote};
+use crate::test_report_run_notes::note::{Failure, TestNote};
 use deodarsieve::counted::HeadSpan;
 
 /// A place in the sources.
@@ -113,7 +113,7 @@ fn is_item(item: &str) -> bool {
 /// Returns the place that the head of the panic which is the cause names.
 fn panic_place<'a>(failure: &'a Failure, found: &Found<'a>) -> Option<Place<'a>> {
     let out = output_of(failure);
-    place_behind(out, cause_head(failure, found)?)
+    place_after(out, cause_head(failure, found)?)
 }
 
 /// Returns the head that names the cause: that of the first panic if the test crashed or if it is of another thread, or
@@ -129,7 +129,7 @@ fn cause_head(failure: &Failure, found: &Found<'_>) -> Option<HeadSpan> {
 }
 
 /// Returns the place that the head of a panic names: what follows in its line, up to a colon at the end.
-fn place_behind(out: &str, head: HeadSpan) -> Option<Place<'_>> {
+fn place_after(out: &str, head: HeadSpan) -> Option<Place<'_>> {
     let (line, _) = first_line(&out[head.stop..]);
     parsed(without_last(line, ':')?)
 }

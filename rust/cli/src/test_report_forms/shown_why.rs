@@ -9,7 +9,7 @@ use crate::test_report_forms::options::{Options, OutputDisplay};
 use crate::test_report_forms::shown::push_limited;
 use crate::test_report_forms::why::{Why, is_crash, output_of, parts_of};
 use crate::test_report_forms::written::written_count;
-use crate::test_report_run::note::{Failure, TestNote};
+use crate::test_report_run_notes::note::{Failure, TestNote};
 
 /// Why a test failed, before the limit.
 #[derive(Clone)]

@@ -4,7 +4,7 @@
 use crate::test_report_forms::junit_case::text_of;
 use crate::test_report_forms::shown::shown_whole;
 use crate::test_report_forms::title::push_title;
-use crate::test_report_run::note::{TestNote, TestOutcome};
+use crate::test_report_run_notes::note::{TestNote, TestOutcome};
 
 /// A skipped test that has a reason. In its texts control characters are already escapes.
 #[derive(Clone)]

@@ -2,7 +2,7 @@
 //! The words for the results of tests, and their colours.
 
 use crate::test_report_forms::options::Options;
-use crate::test_report_run::note::FailureKind;
+use crate::test_report_run_notes::note::FailureKind;
 
 /// Returns the word for a failed test.
 pub(crate) fn failed_status(kind: &FailureKind) -> &'static str {

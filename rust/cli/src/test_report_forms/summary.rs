@@ -2,7 +2,7 @@
 //! The numbers of a run.
 
 use crate::test_report_forms::shown::push_bracket;
-use crate::test_report_run::note::{RunEnd, failed_count};
+use crate::test_report_run_notes::note::{RunEnd, failed_count};
 use deodarsieve::RunOutcome;
 
 /// Returns the word for an outcome.

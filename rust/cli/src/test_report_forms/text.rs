@@ -15,8 +15,8 @@ use crate::test_report_forms::text_why::text_why;
 use crate::test_report_forms::title::push_title;
 use crate::test_report_forms::why::Why;
 use crate::test_report_forms::why_lines::push_why_lines;
-use crate::test_report_run::counted::Finish;
-use crate::test_report_run::note::{Failure, RunEnd, TestNote};
+use crate::test_report_run_notes::finish::Finish;
+use crate::test_report_run_notes::note::{Failure, RunEnd, TestNote};
 
 /// The number of spaces before each line of why a test failed.
 const WHY_MARGIN: usize = 4;

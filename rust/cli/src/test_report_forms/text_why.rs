@@ -5,7 +5,7 @@ use crate::test_report_forms::lines::joined;
 use crate::test_report_forms::options::Options;
 use crate::test_report_forms::shown_why::{ShownWhy, shown_why};
 use crate::test_report_forms::why::{Why, parts_of};
-use crate::test_report_run::note::{Failure, FailureKind, TestNote};
+use crate::test_report_run_notes::note::{Failure, FailureKind, TestNote};
 
 /// Returns why a test failed, as the form for people shows it. If several tests of a suite crashed, only the first has the
 /// explanation.

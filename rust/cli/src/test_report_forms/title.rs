@@ -3,7 +3,7 @@
 
 use crate::test_report_forms::junit_case::shared_text;
 use crate::test_report_forms::shown::{push_name, push_name_and_space};
-use crate::test_report_run::note::TestNote;
+use crate::test_report_run_notes::note::TestNote;
 
 /// Returns the name of a test, without the name of its suite and `$` at the front.
 pub(crate) fn shown_name(test: &TestNote) -> &str {

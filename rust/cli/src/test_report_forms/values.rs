@@ -15,6 +15,7 @@
 //! | `suites` | a `suite` with `name`, `words`, `bar` (as above) and `time` |
 //! | `slowest` | a `slow` test with `name`, `share` (of the longest time, in hundredths) and `seconds` |
 //! | `skips` | a `skip` with `name` and `reason`: a skipped test that has a reason |
+//! | `flaky_tests` | a `test` with `name`, `attempts` and `time`: one that passed after several attempts |
 //!
 //! A `note` has `attempts` with a `count`, if there were several, and a `time`. A `time` has `seconds`. If a `line`, a
 //! `short`, or the `name` of a failed test or of its suite has an `@`, there is an item without values beside it:
@@ -23,6 +24,7 @@
 use crate::template::{Value, push_item, push_section, push_text};
 use crate::test_report_forms::cause::Problem;
 use crate::test_report_forms::failed_test::FailedTest;
+use crate::test_report_forms::flaky_test::FlakyTest;
 use crate::test_report_forms::model::{ReportModel, SuiteRow, no_tests_ran};
 use crate::test_report_forms::numbers::Numbers;
 use crate::test_report_forms::shown::seconds_text;
@@ -30,7 +32,7 @@ use crate::test_report_forms::skipped_test::SkippedTest;
 use crate::test_report_forms::slowest::{SlowTest, Slowest};
 use crate::test_report_forms::summary::outcome_text;
 use crate::test_report_forms::whole_output::WholeOutput;
-use crate::test_report_run::note::{RunEnd, failed_count};
+use crate::test_report_run_notes::note::{RunEnd, failed_count};
 use deodarsieve::RunOutcome;
 
 /// Returns the values of a finished report. The only error is that memory runs out.
@@ -44,6 +46,7 @@ pub fn report_values(model: ReportModel, end: &RunEnd) -> Vec<Value> {
         suites,
         slowest,
         skipped,
+        flaky,
     } = model;
     let mut values = run_values(end);
     push_section(&mut values, "bar", bar(Numbers::of_run(end)));
@@ -54,9 +57,20 @@ pub fn report_values(model: ReportModel, end: &RunEnd) -> Vec<Value> {
     );
     push_section(&mut values, "failures", failed_items(failed));
     push_section(&mut values, "suites", suite_items(suites));
-    push_section(&mut values, "slowest", slow_items(slowest));
-    push_section(&mut values, "skips", skip_items(skipped));
+    push_other_tests(&mut values, slowest, skipped, flaky);
     values
+}
+
+/// Adds the slowest tests, the skipped tests that have a reason, and the tests that passed after several attempts.
+fn push_other_tests(
+    values: &mut Vec<Value>,
+    slowest: Slowest,
+    skipped: Vec<SkippedTest>,
+    flaky: Vec<FlakyTest>,
+) {
+    push_section(values, "slowest", slow_items(slowest));
+    push_section(values, "skips", skip_items(skipped));
+    push_section(values, "flaky_tests", flaky_items(flaky));
 }
 
 /// Returns values with one text.
@@ -318,6 +332,28 @@ fn skip_items(tests: Vec<SkippedTest>) -> Vec<Value> {
     let mut items = Vec::new();
     for test in tests {
         push_item(&mut items, "skip", skip_values(test));
+    }
+    items
+}
+
+/// Returns the values of a test that passed after several attempts.
+fn flaky_values(test: FlakyTest) -> Vec<Value> {
+    let FlakyTest {
+        name,
+        attempts,
+        time,
+    } = test;
+    let mut values = one_text("name", name);
+    push_text(&mut values, "attempts", format!("{attempts}"));
+    push_time(&mut values, time);
+    values
+}
+
+/// Returns the tests that passed after several attempts.
+fn flaky_items(tests: Vec<FlakyTest>) -> Vec<Value> {
+    let mut items = Vec::new();
+    for test in tests {
+        push_item(&mut items, "test", flaky_values(test));
     }
     items
 }

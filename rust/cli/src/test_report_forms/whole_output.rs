@@ -5,7 +5,7 @@ use crate::test_report_forms::lines::{first_line, without_returns};
 use crate::test_report_forms::shown::{front, push_text};
 use crate::test_report_forms::shown_why::ShownWhy;
 use crate::test_report_forms::why::stdout_of;
-use crate::test_report_run::note::Failure;
+use crate::test_report_run_notes::note::Failure;
 
 /// How much of the outputs of failed tests a report has.
 #[derive(Clone, Copy)]

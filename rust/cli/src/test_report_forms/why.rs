@@ -6,7 +6,7 @@ use crate::test_report_forms::place::{Place, place_of};
 use crate::test_report_forms::short::{better_reason, push_said, short_of};
 use crate::test_report_forms::shown::push_seconds;
 use crate::test_report_forms::written::ten_written;
-use crate::test_report_run::note::{Crash, Failure, FailureKind, TestNote};
+use crate::test_report_run_notes::note::{Crash, Failure, FailureKind, TestNote};
 use deodarsieve::TestOutputErrorSlice;
 
 /// Why a test failed.

@@ -2,11 +2,12 @@
 //! The ends of the tests of a suite.
 
 use crate::test_report_events::event::{TestDetails, TestResult};
-use crate::test_report_run::counted::{Finish, count};
+use crate::test_report_run::counted::count;
 use crate::test_report_run::error::{RunError, one_more};
-use crate::test_report_run::note::{Failure, FailureKind, Note, TestOutcome};
 use crate::test_report_run::said::time_sum;
 use crate::test_report_run::suite::{FlakyTest, OverTest, Suite};
+use crate::test_report_run_notes::finish::Finish;
+use crate::test_report_run_notes::note::{Failure, FailureKind, Note, TestOutcome};
 
 /// The reason of the harness for a test that ran out of time.
 const TIME_LIMIT: &str = "time limit exceeded";

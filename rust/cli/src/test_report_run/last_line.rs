@@ -1,7 +1,7 @@
 // Made by tools/erase from crates/test_report_run/src/last_line.rt. Do not edit.
 //! The tests that the last line of a suite explains.
 
-use crate::test_report_run::note::SaidNumbers;
+use crate::test_report_run_notes::note::SaidNumbers;
 
 /// The numbers of tests of a suite before its last line is looked at.
 #[derive(Clone, Copy)]

@@ -4,15 +4,15 @@
 //!
 //! Make a `TestRun`, and pass each line to `on_line`. Call `end_file` after the last line of each file, and
 //! `end` after the last file. `on_line` and `end_file` return notes, for example that a test failed. `end`
-//! returns the counts and the outcome of the run.
+//! returns the counts and the outcome of the run. The types of both are in `test_report_run_notes`.
 //!
 //! This function does so for a run of one file, with the lines `lines`:
 //!
 //! ```
 //! use deodarsieve_cli::test_report_events::line::Line;
 //! use deodarsieve_cli::test_report_run::error::RunError;
-//! use deodarsieve_cli::test_report_run::note::RunEnd;
 //! use deodarsieve_cli::test_report_run::run::TestRun;
+//! use deodarsieve_cli::test_report_run_notes::note::RunEnd;
 //!
 //! fn end_of_lines(lines: &[&[u8]]) -> Result<RunEnd, RunError> {
 //!     let mut run = TestRun::new(60_000_000);
@@ -34,7 +34,7 @@
 //! # Ok::<(), RunError>(())
 //! ```
 
-pub mod counted;
+mod counted;
 mod cuts;
 mod ended;
 pub mod error;
@@ -42,7 +42,6 @@ mod flaky;
 mod headings;
 mod last_line;
 mod longest_end;
-pub mod note;
 mod open_suites;
 mod others;
 mod over;

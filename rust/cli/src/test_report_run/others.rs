@@ -168,7 +168,7 @@ impl Others {
     }
 
     /// Returns the cause of the first failure after an event, unless a heading came between them.
-    pub(crate) fn cause_behind(&self, at: EventPlace) -> Option<String> {
+    pub(crate) fn cause_after(&self, at: EventPlace) -> Option<String> {
         match self.failure_at(at.failures) {
             Some(failure) if failure.headings == at.headings => failure.cause.clone(),
             _ => None,

@@ -1,16 +1,17 @@
 // Made by tools/erase from crates/test_report_run/src/over.rt. Do not edit.
 //! A suite that is over.
 
-use crate::test_report_run::counted::{Finish, count};
+use crate::test_report_run::counted::count;
 use crate::test_report_run::error::{RunError, one_more};
 use crate::test_report_run::flaky::FlakyTests;
 use crate::test_report_run::last_line::{Explanation, disagrees, explained};
-use crate::test_report_run::note::{
-    Crash, Disagreement, Failure, FailureKind, NotRun, Note, SuiteNote, TestOutcome, failed_count,
-};
 use crate::test_report_run::others::Others;
 use crate::test_report_run::running::RunningTest;
 use crate::test_report_run::suite::{FlakyTest, OverTest, Suite};
+use crate::test_report_run_notes::finish::Finish;
+use crate::test_report_run_notes::note::{
+    Crash, Disagreement, Failure, FailureKind, NotRun, Note, SuiteNote, TestOutcome, failed_count,
+};
 use std::rc::Rc;
 
 /// The numbers of a suite that its finished tests do not give.
@@ -123,7 +124,7 @@ impl Suite {
         Crash {
             running,
             has_key: self.name.key.is_some(),
-            cause: others.cause_behind(self.last_event),
+            cause: others.cause_after(self.last_event),
             prints: Rc::new(others.prints_from(self.start)),
             last: others.last_prints_from(self.start),
             above: false,

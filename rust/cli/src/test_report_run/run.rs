@@ -12,9 +12,6 @@ use crate::test_report_events::line::Line;
 use crate::test_report_run::error::{RunError, one_more};
 use crate::test_report_run::headings::Headings;
 use crate::test_report_run::longest_end::LongestEnd;
-use crate::test_report_run::note::{
-    CargoReport, CommandEnd, Disagreement, Note, RunEnd, TestOutcome,
-};
 use crate::test_report_run::open_suites::OpenSuites;
 use crate::test_report_run::others::Others;
 use crate::test_report_run::run::lines::push_damaged;
@@ -22,6 +19,9 @@ use crate::test_report_run::running::Running;
 use crate::test_report_run::suite::Suite;
 use crate::test_report_run::suite_names::SuiteNames;
 use crate::test_report_run::totals::Totals;
+use crate::test_report_run_notes::note::{
+    CargoReport, CommandEnd, Disagreement, Note, RunEnd, TestOutcome,
+};
 use deodarsieve::CancelReason;
 use std::rc::Rc;
 

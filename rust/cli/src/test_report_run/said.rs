@@ -3,7 +3,7 @@
 
 use crate::test_report_events::event::SuiteEnd;
 use crate::test_report_run::error::RunError;
-use crate::test_report_run::note::SaidNumbers;
+use crate::test_report_run_notes::note::SaidNumbers;
 
 /// Adds two numbers that may be absent. The sum is absent only if both are. Fails only if the sum does not
 /// fit.

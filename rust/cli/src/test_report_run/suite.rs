@@ -5,10 +5,10 @@ use crate::test_report_events::event::SuiteEnd;
 use crate::test_report_run::error::{RunError, one_more};
 use crate::test_report_run::flaky::FlakyTests;
 use crate::test_report_run::last_line::Tally;
-use crate::test_report_run::note::{Note, TestNote, TestOutcome, failed_count};
 use crate::test_report_run::others::{EventPlace, Others, PrintPlace};
 use crate::test_report_run::said::{Said, sum};
 use crate::test_report_run::suite_name::SuiteName;
+use crate::test_report_run_notes::note::{Note, TestNote, TestOutcome, failed_count};
 use deodarsieve::{CancelReason, RunStats};
 use std::rc::Rc;
 

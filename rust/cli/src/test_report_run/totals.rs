@@ -2,8 +2,8 @@
 //! The sums over all suites of a run.
 
 use crate::test_report_run::error::{RunError, one_more};
-use crate::test_report_run::note::{RunEnd, SuiteNote};
 use crate::test_report_run::said::time_sum;
+use crate::test_report_run_notes::note::{RunEnd, SuiteNote};
 use deodarsieve::{RunFailureStep, RunOutcome, RunStats};
 
 /// The sums over the suites that are over.

@@ -9,9 +9,9 @@ use deodarsieve_cli::test_report_forms::entry::Entry;
 use deodarsieve_cli::test_report_forms::files::FileForms;
 use deodarsieve_cli::test_report_forms::form::Form;
 use deodarsieve_cli::test_report_forms::text::TextForm;
-use deodarsieve_cli::test_report_run::note::{CommandEnd, Disagreement, Note};
 use deodarsieve_cli::test_report_run::run::TestRun;
 use deodarsieve_cli::test_report_run::suite_names::SuiteNames;
+use deodarsieve_cli::test_report_run_notes::note::{CommandEnd, Disagreement, Note};
 
 /// The time in microseconds from which on a test is slow.
 const SLOW: u64 = 60_000_000;

@@ -9,7 +9,7 @@ use deodarsieve_cli::test_report_engine::report::Report;
 use deodarsieve_cli::test_report_forms::form::Form;
 use deodarsieve_cli::test_report_forms::options::{Options, OutputDisplay};
 use deodarsieve_cli::test_report_forms::text::TextForm;
-use deodarsieve_cli::test_report_run::note::RunEnd;
+use deodarsieve_cli::test_report_run_notes::note::RunEnd;
 use deodarsieve_tests::devices::Devices;
 
 /// The time in microseconds from which on a test is slow.

@@ -5,11 +5,11 @@ use crate::program_io::device::Sink;
 use crate::test_report_engine::others::pass_rest;
 use crate::test_report_events::line::Line;
 use crate::test_report_run::error::RunError;
-use crate::test_report_run::note::{CommandEnd, Disagreement, Note};
 use crate::test_report_run::run::TestRun;
+use crate::test_report_run_notes::note::{CommandEnd, Disagreement, Note};
 
 /// Passes on what of a line is no event, and takes the events of the line. Returns the notes that they make known.
-/// Fails only if memory runs out, or a number of the run does not fit.
+/// Fails only if memory runs out, or if a number of the run does not fit after one of these events.
 pub(crate) fn notes_of_line<O: Sink>(
     run: &mut TestRun,
     bytes: &[u8],
@@ -22,7 +22,7 @@ pub(crate) fn notes_of_line<O: Sink>(
 }
 
 /// Takes the end of a file, or of the output of a command that ended so. Returns the notes that it makes known. Fails
-/// only if memory runs out, or a number of the run does not fit.
+/// only if memory runs out, or if a number of the run does not fit after this end.
 pub(crate) fn notes_of_end(
     run: &mut TestRun,
     command: Option<&CommandEnd>,

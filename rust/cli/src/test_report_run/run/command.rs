@@ -2,9 +2,9 @@
 //! The command whose output the lines of a run are.
 
 use crate::test_report_run::error::RunError;
-use crate::test_report_run::note::{CargoReport, CommandEnd, Disagreement, Note};
 use crate::test_report_run::run::TestRun;
 use crate::test_report_run::suite_names::SuiteNames;
+use crate::test_report_run_notes::note::{CargoReport, CommandEnd, Disagreement, Note};
 use deodarsieve::CancelReason;
 
 impl TestRun {

@@ -4,8 +4,8 @@
 use crate::test_report_events::event::CargoFailure;
 use crate::test_report_run::cuts::shortened;
 use crate::test_report_run::error::{RunError, one_more};
-use crate::test_report_run::note::{CargoReport, Disagreement, Note};
 use crate::test_report_run::run::TestRun;
+use crate::test_report_run_notes::note::{CargoReport, Disagreement, Note};
 use std::rc::Rc;
 
 /// The front of the line in which cargo says that tests failed.

@@ -1,9 +1,9 @@
 // Made by tools/erase from crates/test_report_run/src/run/progress.rt. Do not edit.
 //! How far a run is.
 
-use crate::test_report_run::note::{RunEnd, failed_count};
 use crate::test_report_run::run::TestRun;
 use crate::test_report_run::suite::Suite;
+use crate::test_report_run_notes::note::{RunEnd, failed_count};
 
 /// The numbers of tests of a run up to now. A number that does not fit is the greatest that does.
 #[derive(Clone, Copy, Debug, PartialEq, Eq)]

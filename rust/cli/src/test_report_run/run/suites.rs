@@ -3,9 +3,9 @@
 
 use crate::test_report_events::event::{SuiteEnd, SuiteKey};
 use crate::test_report_run::error::RunError;
-use crate::test_report_run::note::{Disagreement, Note};
 use crate::test_report_run::run::TestRun;
 use crate::test_report_run::suite::Suite;
+use crate::test_report_run_notes::note::{Disagreement, Note};
 
 impl TestRun {
     /// Takes the first line of a suite.

@@ -3,10 +3,10 @@
 
 use crate::test_report_events::event::{TestDetails, TestResult};
 use crate::test_report_run::error::{RunError, one_more};
-use crate::test_report_run::note::{Disagreement, Note};
 use crate::test_report_run::run::TestRun;
 use crate::test_report_run::running::RunningTest;
 use crate::test_report_run::suite::OverTest;
+use crate::test_report_run_notes::note::{Disagreement, Note};
 
 impl TestRun {
     /// Takes the start of a test. Fails only if memory runs out, or a number of the run does not fit.

@@ -1,4 +1,4 @@
-// Made by tools/erase from crates/test_report_run/src/note.rt. Do not edit.
+// Made by tools/erase from crates/test_report_run_notes/src/note.rt. Do not edit.
 //! The notes that the lines of a run make known, and the end of a run.
 
 use crate::test_report_events::event::TestResult;
