@@ -305,6 +305,10 @@ def levels():
     both = ["FLAKY 2/2 suite 1 lends\nFAIL suite 1 lends (2 attempts)\n    flaky, and set to fail\n" + rule, "        FAIL suite 1 lends: "]
     set_to_fail = started(1) + flaky("lends") + ended("failed", 0, 1)
     yield Row("a flaky test that is set to fail", ["--status-level", "retry"], set_to_fail, 1, Parts(both, ["   FLAKY"]))
+    row = '<h2>Flaky tests</h2>\n<table>\n<thead><tr><th scope="col">Test</th><th scope="col">Attempts</th>'
+    yield Row("a flaky test in html", ["--format", "html"], text, 1,
+              Parts([row, '<tr><th scope="row">suite 1 lends</th><td>2</td><td class="time">–</td></tr>\n</tbody>']))
+    yield Row("a flaky test that is set to fail in html", ["--format", "html"], set_to_fail, 1, Parts(["(2 attempts)"], ["Flaky tests"]))
     for level in ("skip", "all"):
         yield Row(f"--status-level {level}, a skipped test", ["--status-level", level], text, 1, Parts(["SKIP suite 1 waits\nFAIL"]))
     for level in ("none", "fail"):

@@ -9,8 +9,8 @@ PACKAGES = {
         "run_events_attempts", "run_events_stats", "run_events_stress", "run_events",
     ),
     "deodarsieve-cli": (
-        "program_io", "run_digest_engine", "template", "test_report_events", "test_report_run",
-        "test_report_forms", "test_report_engine",
+        "program_io", "run_digest_engine", "template", "test_report_events", "test_report_run_notes",
+        "test_report_run", "test_report_forms", "test_report_engine",
     ),
     "deodarsieve-c": ("c_values", "deodarsieve"),
     "deodarsieve-tests": (

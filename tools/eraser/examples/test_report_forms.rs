@@ -3,7 +3,7 @@ use deodarsieve_cli::test_report_forms::entry::Entry;
 use deodarsieve_cli::test_report_forms::form::Form;
 use deodarsieve_cli::test_report_forms::options::{Options, OutputDisplay};
 use deodarsieve_cli::test_report_forms::text::TextForm;
-use deodarsieve_cli::test_report_run::note::{Disagreement, Note};
+use deodarsieve_cli::test_report_run_notes::note::{Disagreement, Note};
 
 fn text_of_note(note: &Note, options: Options) -> String {
     let entry = Entry::of(note);

@@ -1,7 +1,7 @@
 use deodarsieve_cli::test_report_events::line::Line;
 use deodarsieve_cli::test_report_run::error::RunError;
-use deodarsieve_cli::test_report_run::note::RunEnd;
 use deodarsieve_cli::test_report_run::run::TestRun;
+use deodarsieve_cli::test_report_run_notes::note::RunEnd;
 
 fn end_of_lines(lines: &[&[u8]]) -> Result<RunEnd, RunError> {
     let mut run = TestRun::new(60_000_000);

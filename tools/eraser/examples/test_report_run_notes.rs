@@ -1,0 +1,9 @@
+use deodarsieve_cli::test_report_run::run::TestRun;
+use deodarsieve_cli::test_report_run_notes::note::{RunEnd, failed_count};
+
+fn lacks_success(end: &RunEnd) -> bool {
+    failed_count(&end.stats) > 0 || end.not_run > 0
+}
+
+let end = TestRun::new(60_000_000).end();
+assert!(!lacks_success(&end));
