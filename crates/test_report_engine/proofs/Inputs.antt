@@ -15,7 +15,7 @@ use Rattle.test_report_run.specs.declared.run.TestRun.{TestRun}
 use Rattle.test_report_engine.specs.Fits.{InputFits, LineEventsFit}
 use Rattle.test_report_engine.specs.Lines.{IsOneLine, events_after, with_feed}
 use Rattle.test_report_engine.specs.Reading.{AppendsLinesStart, LeadsTo, ReadsInput, RestFits, ReadsLine, ReadsStart, TakesLine, WritesNotes}
-use Rattle.test_report_engine.specs.Report.{after_end, after_line, end_notes, line_notes, notes_of_input, parts, run_after, run_after_input, run_of}
+use Rattle.test_report_engine.specs.Report.{after_end, after_line, end_notes, in_report_order, line_notes, notes_of_input, parts, run_after, run_after_input, run_of}
 use Rattle.test_report_engine.specs.declared.report.Report.{Report}
 use Rattle.test_report_engine.proofs.Lines.{divided-at, events-cut, events-line, events-none, feedless-front, joined, one-events, with-feed, without-feed}
 use Rattle.test_report_engine.proofs.Notes.{starts-empty, starts-front, starts-none, starts-then, writes-empty, writes-from, writes-then}
@@ -25,10 +25,12 @@ pub line-rest : (begun end bytes rest : List ℕ) → bytes ≡ begun ++ end →
 line-rest begun end bytes rest is = rw is (simp append_assoc)
 
 -- what a run makes known and becomes by a line, and by the end of an input
-pub line-takes : (old new : TestRun) (bytes : List ℕ) (events : List EventView) (notes : List NoteView) → LineSays bytes events
-    → notes ≡ spec.notes_of (run_state old) events → run_state new ≡ spec.run_after (run_state old) events → TakesLine old new bytes notes
+pub line-takes : (old new : TestRun) (bytes : List ℕ) (events : List EventView) (known notes : List NoteView) → LineSays bytes events
+    → known ≡ spec.notes_of (run_state old) events → run_state new ≡ spec.run_after (run_state old) events → notes ≡ in_report_order known
+    → TakesLine old new bytes notes
 unfolding run_of line_notes after_line
-line-takes old new bytes events notes says tells takes = record { events = events; says = says; run_is = takes; tells = tells }
+line-takes old new bytes events known notes says tells takes is =
+    record { events = events; says = says; run_is = takes; tells = is ∙ ap in_report_order tells }
 
 end-tells : (run : TestRun) (notes : List NoteView) → notes ≡ file_notes (run_state run) → parts notes ≡ end_notes (run_of run)
 unfolding run_of end_notes

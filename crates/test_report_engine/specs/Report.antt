@@ -1,5 +1,5 @@
 -- The report of a run, which the lines of inputs describe, one input after the other.
-use Rattle.std.specs.Prelude.{◌≡◌, ℕ, Bool, false, true, List, [], ◌∷◌, ◌++◌, if◌then◌else◌}
+use Rattle.std.specs.Prelude.{◌≡◌, ℕ, Bool, false, true, List, [], ◌∷◌, ◌++◌, filter, if◌then◌else◌, not}
 use Rattle.std.specs.List.{AllZip, flat_map, fold, onto_first}
 use Rattle.test_report_events.specs.Event.{EventView}
 use Rattle.test_report_run_notes.specs.Note.{CargoSays, CommandFails, DisagreementView, Disagrees, EndsEarly, FlakyEnds, HasNoEvent, IsDamaged, IsNotRun, NoteView, SaysOther, StartsOutside, StrayEnds, StraySuiteEnds, SuiteIs, TestIs}
@@ -38,13 +38,26 @@ abbrev pub parts : List NoteView → List (List NoteView)
 parts [] = [] ∷ []
 parts (n ∷ ns) = if ends_part n then (n ∷ []) ∷ parts ns else onto_first n (parts ns)
 
+-- the note comes after the others of its line: tests that were not run, and the numbers of a suite
+abbrev pub comes_last : NoteView → Bool
+comes_last (TestIs t) = false
+comes_last (FlakyEnds t) = false
+comes_last (Disagrees d) = false
+comes_last (IsNotRun suite n of) = true
+comes_last (SuiteIs s) = true
+
+-- The notes of a line in the order of a report: first those that do not come last, in their order, and then those that do. If the text before a line that
+-- ends a suite says a failure, this disagreement comes before the tests that were not run.
+abbrev pub in_report_order : List NoteView → List NoteView
+in_report_order notes = filter (λ n. not (comes_last n)) notes ++ filter comes_last notes
+
 -- the run of a report. It and the next four do not unfold by themselves, since they are long
 unfoldable pub run_of : TestRun → RunState
 run_of run = run_state run
 
--- what a line with these events makes known
+-- what a line with these events makes known, in the order of a report
 unfoldable pub line_notes : RunState → List EventView → List NoteView
-line_notes run line = spec.notes_of run line
+line_notes run line = in_report_order (spec.notes_of run line)
 
 -- the run after such a line
 unfoldable pub after_line : RunState → List EventView → RunState

@@ -5,6 +5,7 @@ use Rattle.std.specs.Prelude.{◌⊎◌, Contains, IsTrue}
 use Rattle.std.proofs.lemmas.List.Concat.{flat_map-append}
 use Rattle.std.proofs.lemmas.Bool.{false_from_ne_true}
 use Rattle.std.proofs.lemmas.List.Elements.{All-cons, All-head, All-nil, Contains-append_right}
+use Rattle.std.proofs.lemmas.List.Sorted.{Contains-permutation}
 use Rattle.test_report_run_notes.specs.Note.{Disagrees, FailureView, Fails, FlakyEnds, IsNotRun, IsSkipped, NoteView, OutcomeView, Passes, SuiteIs, TestIs, TestNoteView, text_view}
 use Rattle.test_report_run_notes.specs.declared.note.RunEnd.{RunEnd}
 use Rattle.test_report_forms.specs.Model.{FailedView, all_failures, cause_line, failure_of_entry, failures_of, no_tests_ran, shown_failure_of, with_room}
@@ -37,7 +38,7 @@ use Rattle.test_report_laws.specs.Lines.{Block, GithubNamesCauses, GithubSays, S
 use Rattle.test_report_laws.specs.Status as status
 use Rattle.test_report_laws.specs.Status.{RanNoTests, Succeeds}
 use Rattle.test_report_laws.specs.Whole.{all_notes}
-use Rattle.test_report_laws.proofs.SameRun.{one-run}
+use Rattle.test_report_laws.proofs.SameRun.{one-run, same-notes}
 use Rattle.test_report_laws.specs.Report.{FailureHasReason, FilesNameReason, GithubNamesReason, HasReasonCase, HtmlNamesReason, JunitNamesReason, MarkdownNamesReason, NamesReason, SuccessMeans, TextNamesReason, only_texts}
 use Rattle.test_report_laws.proofs.Uncancelled.{none-cancelled}
 use Rattle.test_report_engine.specs.Lines.{InputView}
@@ -97,8 +98,9 @@ has-reason reasons slow inputs entries run are fails =
     let end = ap (λ (e : RunEnd). e.outcome) same.1.end_is in
     elim (reasons slow files (λ is. fails (end ∙ is))) [
       | inl found ↦
-          let place = found.1 in
-          let beside = beside-at IsEntryOf (all_notes slow files) (all_entries entries) found.0 place.0 same.1.are place.1 place.2 in
+          let place = Contains-permutation (all_notes slow files) same.1.notes found.0
+          (same-notes same.1.notes (all_notes slow files) same.1.order) found.1 in
+          let beside = beside-at IsEntryOf same.1.notes (all_entries entries) found.0 place.0 same.1.are place.1 place.2 in
           inl (beside.other, beside.is_one, entry-reason found.0 beside.other beside.related found.2)
       | inr none ↦ inr (end ∙ none.0)
     ]
@@ -351,7 +353,7 @@ module _ (has_reason : FailureHasReason) where
   pub github-names : GithubNamesCauses → GithubNamesReason
   github-names causes slow o inputs text end report fails =
       let files = one-run slow inputs report.entries report.run report.are in
-      let notes = of-notes (all_notes slow files.0) (all_entries report.entries) files.1.are in
+      let notes = of-notes files.1.notes (all_entries report.entries) files.1.are in
       let says = subst (GithubSays o (all_entries report.entries) end)
       (sym (report-text slow (github_line o) (λ entries end. github_last end) inputs text end report)) (causes o (all_entries report.entries) end notes) in
       says-reason (github_block o) (notice end) (all_entries report.entries) end text (λ e is_one reason. github-own o e reason) says.causes

@@ -6,6 +6,7 @@ use Rattle.std.specs.Prelude.{MatchOption, if◌then◌else◌, nat_lt, option_t
 use Rattle.std.proofs.lemmas.Bool.{cond_both}
 use Rattle.std.proofs.lemmas.List.Concat.{flat_map-append}
 use Rattle.std.proofs.lemmas.List.Elements.{All-cons, All-nil}
+use Rattle.std.proofs.lemmas.List.Sorted.{sum_by-IsPermutation}
 use Rattle.std.proofs.lemmas.List.Sums.{sum_by-append, sum_by-cons}
 use Rattle.run_events_results.specs.declared.results.CancelReason.{CancelReason}
 use Rattle.serde_json.specs.Data.{Data}
@@ -36,7 +37,7 @@ use Rattle.test_report_laws.proofs.CargoReports.{only-settled_at, only-told, rea
 use Rattle.test_report_laws.proofs.EndSums.{by-early, by-last, last_by}
 use Rattle.test_report_laws.proofs.FileEnds.{reported_run, suites-alone}
 use Rattle.test_report_laws.proofs.OverRuns.{over-run}
-use Rattle.test_report_laws.proofs.SameRun.{one-run}
+use Rattle.test_report_laws.proofs.SameRun.{one-run, same-notes}
 use Rattle.test_report_laws.proofs.Sums.{sum-if-none}
 use Rattle.test_report_laws.proofs.Types.{Explanation}
 
@@ -348,4 +349,6 @@ pub none-cancelled : (slow : ℕ) (inputs : List InputView) (entries : List (Lis
     → All IsNotCancelled (all_entries entries)
 none-cancelled slow inputs entries run are =
     let whole = one-run slow inputs entries run are in
-    entries-fresh (all_notes slow whole.0) (all_entries entries) whole.1.are (fresh-notes slow whole.0 (files-quiet inputs whole.0 whole.1.say))
+    entries-fresh whole.1.notes (all_entries entries) whole.1.are
+    (sum_by-IsPermutation weight (all_notes slow whole.0) whole.1.notes (same-notes whole.1.notes (all_notes slow whole.0) whole.1.order)
+    ∙ fresh-notes slow whole.0 (files-quiet inputs whole.0 whole.1.say))

@@ -1,5 +1,5 @@
 -- Laws of reports.
-use Rattle.std.specs.Prelude.{◌≡◌, ◌<◌, ◌++◌, ◌||◌, ◌⊎◌, nat_le, [], ℕ, All, Bool, Contains, IfSome, IsTrue, List, Some, codes}
+use Rattle.std.specs.Prelude.{◌≡◌, ◌<◌, ◌++◌, ◌||◌, ◌⊎◌, nat_le, [], ℕ, All, Bool, Contains, IfSome, IsTrue, List, Some, codes, filter, not}
 use Rattle.std.specs.List.{AllZip, flat_map}
 use Rattle.template.specs.Hole.{hole_text}
 use Rattle.template.specs.Shows.{HasPart}
@@ -9,7 +9,7 @@ use Rattle.run_events_levels.specs.declared.levels.FinalStatusLevel.TheVariants 
 use Rattle.run_events_levels.specs.declared.levels.StatusLevel.TheVariants as level
 use Rattle.run_events_settings.specs.Config.{is_final_display, is_immediate_display}
 use Rattle.test_report_events.specs.Event.{EventView, WithStatus}
-use Rattle.test_report_run_notes.specs.Note.{text_view}
+use Rattle.test_report_run_notes.specs.Note.{NoteView, text_view}
 use Rattle.test_report_run_notes.specs.declared.note.RunEnd.{RunEnd}
 use Rattle.test_report_forms.specs.Entry.{EntryView, IsEntryOf}
 use Rattle.test_report_forms.specs.Github.{github_last, github_line}
@@ -30,7 +30,7 @@ use Rattle.test_report_run.specs.Run.{RunState, end_of}
 use Rattle.test_report_laws.specs.Status.{IsInOrder, RanNoTests, Succeeds}
 use Rattle.test_report_laws.specs.Whole.{all_notes, whole_end}
 use Rattle.test_report_engine.specs.Lines.{AreEventsOf, InputView}
-use Rattle.test_report_engine.specs.Report.{AreEntriesOf, AreTexts, IsReport, all_entries}
+use Rattle.test_report_engine.specs.Report.{AreEntriesOf, AreTexts, IsReport, all_entries, comes_last}
 
 -- Inputs have at most one report in a form, and one end of the run.
 abbrev pub OneReport : Type 0
@@ -46,10 +46,17 @@ pub record HasEvents (input : InputView) (events : List EventView) : Type 0 wher
   pub say : AreEventsOf input lines
   pub are : events ≡ flat_map (λ line. line) lines
 
--- these files have the events of inputs, these entries are of what they make known, and this is their end
+-- These notes are those that a run makes known, in the order of a report: those that come last in their line have their order, and so have all others.
+pub record AreReordered (notes known : List NoteView) : Type 0 where
+  pub first : filter (λ n. not (comes_last n)) notes ≡ filter (λ n. not (comes_last n)) known
+  pub last : filter comes_last notes ≡ filter comes_last known
+
+-- these files have the events of inputs, these entries are of what they make known, in the order of a report, and this is their end
 pub record AreFilesOf (slow : ℕ) (inputs : List InputView) (entries : List EntryView) (end : RunEnd) (files : List (List EventView)) : Type 0 where
   pub say : AllZip HasEvents inputs files
-  pub are : AllZip IsEntryOf (all_notes slow files) entries
+  pub notes : List NoteView
+  pub order : AreReordered notes (all_notes slow files)
+  pub are : AllZip IsEntryOf notes entries
   pub end_is : end ≡ whole_end slow files
 
 -- The entries and the end of a report are those of files to which these laws apply.

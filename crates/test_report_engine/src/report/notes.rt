@@ -15,14 +15,15 @@ ghost use Rattle.test_report_engine.specs.Report.{end_notes, parts, run_after, r
 
 use crate::others::pass_rest;
 use program_io::device::Sink;
-use std::alloc::Global;
+use std::alloc::{AllocError, Global};
 use test_report_events::line::Line;
 use test_report_run::error::RunError;
 use test_report_run::run::TestRun;
 use test_report_run_notes::note::{CommandEnd, Disagreement, Note};
 
-/// Passes on what of a line is no event, and takes the events of the line. Returns the notes that they make known.
-/// Fails only if memory runs out, or if a number of the run does not fit after one of these events.
+/// Passes on what of a line is no event, and takes the events of the line. Returns the notes that they make known, in
+/// the order of a report. Fails only if memory runs out, or if a number of the run does not fit after one of these
+/// events.
 pub(crate) fn notes_of_line<O: Sink>(
     alloc: Global,
     run: &mut TestRun,
@@ -43,7 +44,32 @@ pub(crate) fn notes_of_line<O: Sink>(
     let line = Line::read(alloc, bytes)?;
     pass_rest(alloc, others, bytes, line.rest())?;
     let notes = run.on_line(alloc, &line)?;
-    Ok(notes)
+    let ordered = in_report_order(alloc, notes)?;
+    Ok(ordered)
+}
+
+/// Returns the notes of a line in the order of a report: tests that were not run, and the numbers of a suite, come last.
+fn in_report_order(alloc: Global, notes: Vec<Note>) -> Result<Vec<Note>, AllocError>
+    ensures { IfOk result (λ ordered. map note_view ordered.items ≡ spec.in_report_order (map note_view notes.items)) }
+{
+    let mut ordered = Vec::new(alloc);
+    let mut last = Vec::new(alloc);
+    for note in notes {
+        if comes_last(&note) {
+            last.push(note)?;
+        } else {
+            ordered.push(note)?;
+        }
+    }
+    ordered.append(&mut last)?;
+    Ok(ordered)
+}
+
+/// Returns true if a note comes after the others of its line.
+fn comes_last(note: &Note) -> bool
+    ensures { result ≡ spec.comes_last (note_view note.now) }
+{
+    matches!(note, Note::NotRun(_) | Note::Suite(_))
 }
 
 /// Takes the end of a file, or of the output of a command that ended so. Returns the notes that it makes known. Fails

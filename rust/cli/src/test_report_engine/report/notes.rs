@@ -8,8 +8,9 @@ use crate::test_report_run::error::RunError;
 use crate::test_report_run::run::TestRun;
 use crate::test_report_run_notes::note::{CommandEnd, Disagreement, Note};
 
-/// Passes on what of a line is no event, and takes the events of the line. Returns the notes that they make known.
-/// Fails only if memory runs out, or if a number of the run does not fit after one of these events.
+/// Passes on what of a line is no event, and takes the events of the line. Returns the notes that they make known, in
+/// the order of a report. Fails only if memory runs out, or if a number of the run does not fit after one of these
+/// events.
 pub(crate) fn notes_of_line<O: Sink>(
     run: &mut TestRun,
     bytes: &[u8],
@@ -18,7 +19,28 @@ pub(crate) fn notes_of_line<O: Sink>(
     let line = Line::read(bytes);
     pass_rest(others, bytes, line.rest());
     let notes = run.on_line(&line)?;
-    Ok(notes)
+    let ordered = in_report_order(notes);
+    Ok(ordered)
+}
+
+/// Returns the notes of a line in the order of a report: tests that were not run, and the numbers of a suite, come last.
+fn in_report_order(notes: Vec<Note>) -> Vec<Note> {
+    let mut ordered = Vec::new();
+    let mut last = Vec::new();
+    for note in notes {
+        if comes_last(&note) {
+            last.push(note);
+        } else {
+            ordered.push(note);
+        }
+    }
+    ordered.append(&mut last);
+    ordered
+}
+
+/// Returns true if a note comes after the others of its line.
+fn comes_last(note: &Note) -> bool {
+    matches!(note, Note::NotRun(_) | Note::Suite(_))
 }
 
 /// Takes the end of a file, or of the output of a command that ended so. Returns the notes that it makes known. Fails
