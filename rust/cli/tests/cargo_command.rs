@@ -137,6 +137,7 @@ fn nothing_is_compiled_again_and_documentation_tests_are_run() {
     assert!(text.contains(summary), "{text}");
     assert!(text.contains("money (doc tests)"), "{text}");
     assert!(text.contains("(signal: 6"), "{text}");
+    assert!(!text.contains("--as-runner"), "{text}");
 }
 
 #[test]
@@ -159,6 +160,41 @@ fn a_runner_of_the_user_is_used_and_its_cost_is_told() {
     let told = "test-report: RUSTC_BOOTSTRAP is set for the whole of cargo, because your settings name a runner or a \
                 rustdoc: packages whose build script watches this variable are compiled anew\n";
     assert_failed(&output, NAMES, told);
+}
+
+#[test]
+fn a_runner_for_other_targets_and_a_setting_after_the_subcommand_cost_nothing() {
+    let folder = Folder::new("other-runner");
+    write_package(&folder);
+    fs::create_dir(folder.0.join(".cargo")).expect("it is new");
+    let runners = "[target.'cfg(target_arch = \"wasm32\")']\nrunner = \"none\"\n\
+                   [target.'cfg(all(target_arch = \"arm\", target_os = \"none\"))']\nrunner = \"none\"\n";
+    fs::write(folder.0.join(".cargo/config.toml"), runners).expect("the folder is there");
+    let arguments = [env!("CARGO"), "test", "--config", "net.retry=2"];
+    let mut cargo_test = Command::new(env!("CARGO"));
+    run_in(&folder.0, cargo_test.args(["test", "--no-fail-fast"]));
+    let output = report(
+        &folder,
+        &[&["--format", "names", "--"][..], &arguments].concat(),
+    );
+    assert_eq!(String::from_utf8_lossy(&output.stdout), NAMES);
+    assert_nothing_compiled(&output);
+    let messages = String::from_utf8_lossy(&output.stderr);
+    assert!(!messages.contains("RUSTC_BOOTSTRAP"), "{messages}");
+    assert_eq!(builds(&folder), 1);
+}
+
+#[cfg(unix)]
+#[test]
+fn the_end_of_the_output_is_passed_on_without_a_line_feed() {
+    use std::os::unix::fs::PermissionsExt;
+    let folder = Folder::new("end");
+    let cargo = folder.0.join("cargo");
+    let script = "#!/bin/sh\ncase \"$*\" in\n*'config get'* | *--no-run*) ;;\n*) printf '  process' ;;\nesac\n";
+    fs::write(&cargo, script).expect("the folder is there");
+    fs::set_permissions(&cargo, fs::Permissions::from_mode(0o755)).expect("it is there");
+    let output = report(&folder, &["--", "./cargo", "test"]);
+    assert_eq!(String::from_utf8_lossy(&output.stderr), "  process\n");
 }
 
 #[test]

@@ -2,7 +2,9 @@
 
 pub mod artifacts;
 pub mod cargo;
+mod conditions;
 pub mod end;
+pub mod hidden;
 pub mod prepared;
 pub mod repeated;
 pub mod running;

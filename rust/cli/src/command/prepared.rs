@@ -36,6 +36,9 @@ pub struct Prepared {
 
     /// A message for the user.
     pub message: Option<&'static str>,
+
+    /// The path of the program that cargo starts in place of the test programs, if it starts one.
+    pub stand_in: Option<String>,
 }
 
 /// A cargo that builds the tests of a command, and says which programs they are.
@@ -106,6 +109,7 @@ fn unchanged(words: &[OsString]) -> Prepared {
         build: None,
         variables: Vec::new(),
         message: None,
+        stand_in: None,
     }
 }
 
@@ -130,14 +134,15 @@ fn acceptance_for(cargo: &CargoCommand) -> Acceptance {
 
 /// Returns a `cargo test` or `cargo bench` whose harness writes JSON lines.
 fn with_harness(cargo: &CargoCommand, acceptance: &Acceptance) -> Prepared {
-    let mut words = cargo.before.to_vec();
+    let mut settings: Vec<OsString> = Vec::new();
     let mut prepared = unchanged(&[]);
     match acceptance {
         Acceptance::StandIn(path) => {
             for setting in settings_for(path) {
-                words.extend(["--config".into(), setting.into()]);
+                settings.extend(["--config".into(), setting.into()]);
             }
             prepared.variables = vec![(AS_RUSTDOC, "1".into())];
+            prepared.stand_in = Some(path.clone());
         }
         Acceptance::WholeCargo => {
             prepared.variables = vec![(BOOTSTRAP, ACCEPT_OPTIONS.into())];
@@ -145,7 +150,12 @@ fn with_harness(cargo: &CargoCommand, acceptance: &Acceptance) -> Prepared {
         }
         Acceptance::Given => {}
     }
-    words.extend_from_slice(cargo.subcommand);
+    // Cargo takes no settings before the subcommand if there are some after it.
+    let mut words = if values_of(cargo.own, "--config").is_empty() {
+        [cargo.before, &settings, cargo.subcommand].concat()
+    } else {
+        [cargo.before, cargo.subcommand, &settings].concat()
+    };
     prepared.build = build_of(cargo, &words);
     if !cargo.own.iter().any(|word| word == "--no-fail-fast") {
         words.push("--no-fail-fast".into());
@@ -220,6 +230,7 @@ fn with_nextest(cargo: &CargoCommand) -> Prepared {
         build: None,
         variables: vec![(NEXTEST_JSON, "1".into())],
         message: None,
+        stand_in: None,
     }
 }
 
@@ -285,6 +296,30 @@ mod tests {
         assert_eq!(prepared.words[7..], ["--no-fail-fast"]);
         assert_eq!(prepared.variables, [(AS_RUSTDOC, "1".into())]);
         assert_eq!(prepared.message, None);
+    }
+
+    #[test]
+    fn settings_stand_where_those_of_the_user_stand() {
+        for (command, after) in [
+            ("cargo --config a=1 test", false),
+            ("cargo test --config a=1", true),
+            ("cargo test --config=a=1", true),
+            ("cargo --config a=1 test --config b=1", true),
+        ] {
+            let given = words(command);
+            let cargo = CargoCommand::of(&given).expect("the command runs tests");
+            let prepared = with_harness(&cargo, &Acceptance::StandIn("/a".into()));
+            let at = |wanted: &str| prepared.words.iter().position(|word| word == wanted);
+            assert_eq!(at("build.rustdoc=\"/a\"") > at("test"), after, "{command}");
+            let build = prepared.build.expect("cargo builds first");
+            assert!(
+                build
+                    .words
+                    .iter()
+                    .any(|word| word == "build.rustdoc=\"/a\""),
+                "{command}"
+            );
+        }
     }
 
     #[test]

@@ -1,16 +1,21 @@
 //! Finds out whether cargo's settings name a program that runs tests or documentation tests.
 
 use super::cargo::{CargoCommand, values_of};
+use super::conditions::holds;
 use super::stand_in::BOOTSTRAP;
 use serde_json::{Map, Value};
 use std::env;
+use std::ffi::OsString;
 use std::process::{Command, Output, Stdio};
 
 /// The variables that name a rustdoc.
 const RUSTDOC_VARIABLES: [&str; 2] = ["RUSTDOC", "CARGO_BUILD_RUSTDOC"];
 
-/// Returns true if a variable or cargo's settings name a runner for a target of a command, or a rustdoc. If they
-/// cannot be read, returns what is known without them.
+/// The variables that name a rustc.
+const RUSTC_VARIABLES: [&str; 2] = ["RUSTC", "CARGO_BUILD_RUSTC"];
+
+/// Returns true if a variable or cargo's settings name a rustdoc, or a runner for a target of a command or for a condition
+/// that may hold for one. If they cannot be read, returns what is known without them.
 pub fn names_other_program(cargo: &CargoCommand) -> bool {
     if RUSTDOC_VARIABLES
         .iter()
@@ -19,11 +24,19 @@ pub fn names_other_program(cargo: &CargoCommand) -> bool {
         return true;
     }
     let settings = settings_of(cargo).unwrap_or_default();
+    if names_rustdoc(&settings) {
+        return true;
+    }
     let mut runners = runners_in(&settings);
     runners.extend(runners_of_variables());
-    names_rustdoc(&settings)
-        || runners.iter().any(|runner| runner.is_condition())
-        || (!runners.is_empty() && is_for_one(&runners, &targets_of(cargo, &settings)))
+    if runners.is_empty() {
+        return false;
+    }
+    let targets = targets_of(cargo, &settings);
+    is_for_one(&runners, &targets)
+        || has_condition_for_one(&runners, &targets, |target| {
+            facts_of(cargo, &settings, target)
+        })
 }
 
 /// The target for which a runner is set.
@@ -48,6 +61,26 @@ fn is_for_one(runners: &[RunnerTarget], targets: &[String]) -> bool {
         .iter()
         .flat_map(|runner| targets.iter().map(move |target| (runner, target)));
     pairs.any(|(runner, target)| runner.is(target))
+}
+
+/// Returns true if one of these runners is for a condition, unless the condition does not hold for any of these targets.
+/// `facts_of` returns what rustc says of a target, if it says anything.
+fn has_condition_for_one(
+    runners: &[RunnerTarget],
+    targets: &[String],
+    facts_of: impl Fn(&str) -> Option<String>,
+) -> bool {
+    let conditions: Vec<_> = runners.iter().filter(|it| it.is_condition()).collect();
+    if conditions.is_empty() || targets.is_empty() {
+        return !conditions.is_empty();
+    }
+    let facts: Vec<_> = targets.iter().map(|target| facts_of(target)).collect();
+    let may_hold = |condition: &str, facts: &Option<String>| {
+        let found = facts.as_ref().and_then(|facts| holds(condition, facts));
+        found.unwrap_or(true)
+    };
+    let is_used = |runner: &RunnerTarget| facts.iter().any(|facts| may_hold(&runner.0, facts));
+    conditions.into_iter().any(is_used)
 }
 
 /// Returns the targets whose runner a variable names, as that variable writes them.
@@ -106,6 +139,32 @@ fn host_of(cargo: &CargoCommand) -> Option<String> {
     let text = String::from_utf8(output.stdout).ok()?;
     let host = text.lines().find_map(|line| line.strip_prefix("host: "))?;
     Some(host.to_string())
+}
+
+/// Returns what rustc says of a target, one fact a line, or `None` if it fails.
+fn facts_of(cargo: &CargoCommand, settings: &Map<String, Value>, target: &str) -> Option<String> {
+    let output = rustc_of(cargo, settings)
+        .args(["--print", "cfg", "--target", target])
+        .stdin(Stdio::null())
+        .stderr(Stdio::null())
+        .output()
+        .ok()?;
+    let is_said = output.status.success();
+    is_said.then(|| String::from_utf8(output.stdout).ok())?
+}
+
+/// Returns the rustc that a command uses: the one that a variable or the settings name, or that of its toolchain.
+fn rustc_of(cargo: &CargoCommand, settings: &Map<String, Value>) -> Command {
+    let named = RUSTC_VARIABLES.iter().find_map(env::var_os);
+    let build = settings.get("build");
+    let set = build.and_then(|build| build.get("rustc")?.as_str());
+    if let Some(program) = named.or_else(|| set.map(OsString::from)) {
+        return Command::new(program);
+    }
+    let mut command = Command::new("rustc");
+    let toolchain = cargo.before.get(1).and_then(|word| word.to_str());
+    command.args(toolchain.filter(|word| word.starts_with('+')));
+    command
 }
 
 /// Returns the settings that cargo reads for a command, or `None` if cargo does not say them.
@@ -187,6 +246,72 @@ mod tests {
         assert!(is_for_one(&runners(["a", "wasm32-wasip1"]), &targets));
         assert!(!is_for_one(&runners(["wasm32-wasip2"]), &targets));
         assert!(!is_for_one(&[], &targets));
+    }
+
+    #[test]
+    fn a_runner_of_a_condition_is_used_if_the_condition_may_hold() {
+        let targets = ["thumbv7em-none-eabi", "x86_64-unknown-linux-gnu"].map(String::from);
+        let facts_of = |target: &str| {
+            let of_linux = target
+                .contains("linux")
+                .then_some("unix\ntarget_os=\"linux\"\n");
+            Some(of_linux.unwrap_or("target_os=\"none\"\n").to_string())
+        };
+        let is_used = |condition| has_condition_for_one(&runners([condition]), &targets, facts_of);
+        for condition in [
+            "cfg(unix)",
+            "cfg(target_os = \"none\")",
+            "cfg(all())",
+            "cfg(mine)",
+            "cfg(what?)",
+        ] {
+            assert!(is_used(condition), "{condition}");
+        }
+        for other in [
+            "cfg(windows)",
+            "cfg(target_arch = \"wasm32\")",
+            "thumbv7em-none-eabi",
+        ] {
+            assert!(!is_used(other), "{other}");
+        }
+        let windows = runners(["cfg(windows)"]);
+        assert!(
+            has_condition_for_one(&windows, &targets, |_| None),
+            "rustc says nothing"
+        );
+        assert!(
+            has_condition_for_one(&windows, &[], |_| None),
+            "no target is known"
+        );
+        assert!(
+            !has_condition_for_one(&runners(["a"]), &[], |_| None),
+            "there is no condition"
+        );
+    }
+
+    #[test]
+    fn rustc_is_the_one_that_cargo_uses() {
+        let words = ["cargo", "+nightly", "test"].map(Into::into);
+        let cargo = CargoCommand::of(&words).expect("the command runs tests");
+        let of_toolchain = rustc_of(&cargo, &Map::new());
+        assert_eq!(of_toolchain.get_program(), "rustc");
+        assert_eq!(of_toolchain.get_args().collect::<Vec<_>>(), ["+nightly"]);
+        let set = rustc_of(&cargo, &settings(r#"{"build":{"rustc":"/a/rustc"}}"#));
+        assert_eq!(
+            (set.get_program(), set.get_args().count()),
+            ("/a/rustc".as_ref(), 0)
+        );
+    }
+
+    #[test]
+    fn rustc_says_what_a_target_is() {
+        let words = ["cargo", "test"].map(Into::into);
+        let cargo = CargoCommand::of(&words).expect("the command runs tests");
+        let facts =
+            facts_of(&cargo, &Map::new(), "wasm32-unknown-unknown").expect("rustc knows it");
+        assert_eq!(holds("cfg(target_arch = \"wasm32\")", &facts), Some(true));
+        assert_eq!(holds("cfg(unix)", &facts), Some(false));
+        assert_eq!(facts_of(&cargo, &Map::new(), "no-such-target"), None);
     }
 
     #[test]

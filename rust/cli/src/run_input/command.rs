@@ -4,6 +4,7 @@
 use super::{RunReader, unread};
 use crate::command::artifacts::Artifacts;
 use crate::command::end::end_of;
+use crate::command::hidden::HiddenStandIn;
 use crate::command::prepared::{Build, Prepared, prepare};
 use crate::command::repeated::Repeated;
 use crate::command::running::{LOOK, RunningCommand};
@@ -120,11 +121,8 @@ impl<F: Form, W: Write> RunReader<'_, '_, F, W> {
 
     /// Passes lines to the report that were passed on to standard error before.
     fn take_again(&mut self, lines: &[u8]) -> Result<(), Failure> {
-        if lines.is_empty() {
-            return Ok(());
-        }
         self.streams.others.are_wanted = false;
-        self.take_piece(lines)?;
+        self.take_some(lines)?;
         self.streams.others.are_wanted = self.pass_on.of_command();
         Ok(())
     }
@@ -134,13 +132,23 @@ impl<F: Form, W: Write> RunReader<'_, '_, F, W> {
         match RunningCommand::start(prepared.command()) {
             Ok((mut command, output)) => {
                 let reading = Reading::start(output).map_err(unread)?;
+                let mut hidden = HiddenStandIn::new(prepared.stand_in.as_deref());
                 self.read_output(&reading, &mut command, |reader, piece| {
-                    reader.take_piece(piece).map_err(Failure::from)
+                    reader.take_some(&hidden.shown(piece))
                 })?;
+                self.take_some(&hidden.rest())?;
                 self.wait_for(&mut command)
             }
             Err(error) => Ok(not_started(&error)),
         }
+    }
+
+    /// Passes a piece of output to the report, if it is not empty.
+    fn take_some(&mut self, piece: &[u8]) -> Result<(), Failure> {
+        if !piece.is_empty() {
+            self.take_piece(piece)?;
+        }
+        Ok(())
     }
 
     /// Reads what a command writes, until the pipe ends or the command is over, and takes each piece.
