@@ -195,6 +195,14 @@ def forms():
             shown = "\\u001b" if form == "json" else "u{1b}"
             yield Row(f"{form}, --raw", [*option, "--raw"], COLOURED, 1, Parts([shown], ["\x1b"]))
     yield Row("text is the default", [], RED, 1, RED_TEXT)
+    torn = '{"type":"test","event":"failed","name":"pays'
+    said = [f"a damaged line says that a test or a suite failed: {torn}\n", "suite 1: 1 of 2 tests were not run\n"]
+    not_run = started(2) + passed("adds") + torn + ended("ok", 1, 0)
+    yield Row("a damaged text before the last line of a suite", [], not_run, 1, Parts(["".join(said) + "------------\n"]), f"{torn}\n")
+    early = started(2) + passed("adds") + torn + GREEN
+    yield Row("a damaged text before a line with which a suite ends early", [], early, 1, Parts(["suite 1 ended early\n" + "".join(said)]),
+              f"{torn}\n")
+    yield Row("github of such a text", ["--format", "github"], not_run, 1, Parts(["".join(f"::error::{line}" for line in said)]), f"{torn}\n")
     yield Row("a page without suites", ["--format", "html"], "no event\n", 1, Parts(["<h1>", "failed"], ["<h2>Suites", "<table>"]),
               "no event\n")
 
