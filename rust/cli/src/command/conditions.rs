@@ -193,7 +193,7 @@ mod tests {
             Some(true),
         );
         assert_holds(
-            ["cfg(all(windows, mine))", "cfg(not(any(unix, mine)))"],
+            ["cfg(all(windows, mine2))", "cfg(not(any(unix, mine)))"],
             Some(false),
         );
     }
