@@ -20,7 +20,7 @@ pub use Rattle.run_events_levels.specs.LevelRanks
 pub use Rattle.run_events_levels.specs.TestView
 pub use Rattle.run_events_levels.specs.Visibility
 pub use Rattle.run_events_results.specs.Described
-pub use Rattle.run_events_results.specs.Ranks
+pub use Rattle.run_events_results.specs.CancelReasons
 pub use Rattle.run_events_results.specs.Results
 pub use Rattle.run_events_results.specs.Texts
 pub use Rattle.run_events_settings.specs.Config
@@ -28,8 +28,5 @@ pub use Rattle.run_events_settings.specs.Stress
 pub use Rattle.run_events_stats.specs.Counters
 pub use Rattle.run_events_stats.specs.Outcome
 pub use Rattle.run_events_stats.specs.RunLaws
-pub use Rattle.run_events_stats.specs.ScriptCounters
-pub use Rattle.run_events_stats.specs.Sum
 pub use Rattle.run_events_stats.specs.Summary
-pub use Rattle.run_events_stats.specs.TestCounters
 pub use Rattle.run_events_stress.specs.Progress

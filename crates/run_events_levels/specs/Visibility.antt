@@ -1,7 +1,7 @@
 -- What a reporter shows of a finished test, and when.
 use Rattle.std.specs.Prelude.{◌≡◌, ◌≤◌, ◌+◌, ◌⊎◌, ◌==◌, ◌&&◌, ◌||◌, ℕ, Bool, true, false, IsTrue, if◌then◌else◌, nat_le, nat_lt, Option, None, Some}
 use Rattle.run_events_settings.specs.Config.{is_final_display, is_immediate_display}
-use Rattle.run_events_results.specs.Ranks.{reason_rank}
+use Rattle.run_events_results.specs.CancelReasons.{reason_rank}
 use Rattle.run_events_levels.specs.LevelRanks.{final_level_rank, level_rank}
 use Rattle.run_events_results.specs.Results.{is_termination_failure}
 use Rattle.run_events_settings.specs.declared.config.TestOutputDisplay.{TestOutputDisplay}

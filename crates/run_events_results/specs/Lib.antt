@@ -1,4 +1,4 @@
+pub mod CancelReasons
 pub mod Described
-pub mod Ranks
 pub mod Results
 pub mod Texts

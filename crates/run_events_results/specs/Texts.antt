@@ -1,10 +1,8 @@
--- The displayed texts of results, reasons and signals.
+-- The displayed texts of kinds of units, failures and aborts.
 use Rattle.std.specs.Prelude.{Bool, true, false, ℕ, ℤ, ◌/◌, ◌%◌, zero, suc, List, [], ◌∷◌, ◌++◌, codes, Option, None, Some, String, string_bytes}
 use Rattle.std.specs.Int.{cast_unsigned, w32}
 use Rattle.std.specs.Fmt.{signed_decimal, digit_glyph}
 use Rattle.std.specs.declared.alloc.Global.{Global}
-use Rattle.run_events_results.specs.declared.results.CancelReason.{CancelReason}
-use Rattle.run_events_results.specs.declared.results.CancelReason.TheVariants as reason
 use Rattle.run_events_results.specs.declared.results.UnitKind.{UnitKind}
 use Rattle.run_events_results.specs.declared.results.UnitKind.TheVariants as kind
 use Rattle.run_events_results.specs.declared.results.failure.AbortDescription.{AbortDescription}
@@ -55,15 +53,3 @@ waiting_text kind.Script = codes "waiting on script process"
 abbrev pub executing_text : UnitKind → List ℕ
 executing_text kind.Test = codes "executing test"
 executing_text kind.Script = codes "executing script"
-
--- the displayed text of a reason to cancel
-abbrev pub cancel_text : CancelReason → List ℕ
-cancel_text reason.SetupScriptFailure = codes "setup script failure"
-cancel_text reason.TestFailure = codes "test failure"
-cancel_text reason.ReportError = codes "reporting error"
-cancel_text reason.OutputLimit = codes "output limit"
-cancel_text reason.TestFailureImmediate = codes "test failure"
-cancel_text reason.GlobalTimeout = codes "global timeout"
-cancel_text reason.Signal = codes "signal"
-cancel_text reason.Interrupt = codes "interrupt"
-cancel_text reason.SecondSignal = codes "second signal"

@@ -2,7 +2,7 @@
 
 ghost use Rattle.std.specs.Prelude.{◌≡◌, ◌↔◌, ◌≤◌, IsTrue, codes, pos};
 ghost use Rattle.std.specs.Ordering.{nat_cmp};
-ghost use Rattle.run_events_results.specs.Ranks.{reason_rank};
+ghost use Rattle.run_events_results.specs.CancelReasons.{reason_rank};
 
 use crate::results::{CancelReason, ExecutionResult, SIGTERM, UnitKind};
 use std::cmp::Ordering;

@@ -1,9 +1,10 @@
 //! The results of attempts, and the reasons to cancel a run.
 
 ghost use Rattle.std.specs.Prelude.{◌≡◌};
+ghost use Rattle.run_events_results.specs.CancelReasons.{cancel_text};
 ghost use Rattle.run_events_results.specs.Results.{status_succeeds, status_word, succeeds, result_word};
 ghost use Rattle.run_events_results.specs.Described.{described_result};
-ghost use Rattle.run_events_results.specs.Texts.{cancel_text, executing_text, waiting_text};
+ghost use Rattle.run_events_results.specs.Texts.{executing_text, waiting_text};
 ghost use Rattle.run_events_results.specs.Results as spec;
 
 use run_events_settings::config::{LeakTimeoutResult, SlowTimeoutResult};

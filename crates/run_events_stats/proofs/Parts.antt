@@ -3,9 +3,8 @@ use Rattle.std.proofs.Common.{◌≡◌, ◌+◌, List, ◌++◌, length, Bool, 
 use Rattle.std.specs.Prelude.{Option}
 use Rattle.std.specs.List.{filter_map}
 use Rattle.std.proofs.lemmas.List.Elements.{filter_map-append}
-use Rattle.run_events_stats.specs.Counters.{UnitView, count_of, stats_of}
+use Rattle.run_events_stats.specs.Counters.{UnitView, count_of, start_of_both, stats_of, sum_of}
 use Rattle.run_events_stats.specs.RunLaws.{IsSum}
-use Rattle.run_events_stats.specs.Sum.{start_of_both, sum_of}
 use Rattle.run_events_stats.specs.declared.stats.RunStart.{RunStart}
 use Rattle.run_events_stats.proofs.Counts.{count_of-append}
 
@@ -19,7 +18,7 @@ length_of_parts h a b = ap length (filter_map-append h a b) ∙ length-append (f
 
 -- each counter of the whole is the sum of that counter in both parts
 pub cut-law : (a b : List UnitView) (start : RunStart) → IsSum (stats_of a start) (stats_of b start) (stats_of (a ++ b) start)
-cut-law a b start = search (rules, sum_of_parts, length_of_parts)
+cut-law a b start = simp (sum_of_parts, length_of_parts)
 
 -- the statistics of the units of both parts are the sum of those of both
 pub sum-of-both : (a b : List UnitView) (start other : RunStart) → stats_of (a ++ b) (start_of_both start other) ≡ sum_of (stats_of a start) (stats_of b other)

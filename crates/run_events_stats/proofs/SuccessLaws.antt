@@ -2,9 +2,8 @@
 use Rattle.std.proofs.Common.{◌≡◌, ◌<◌, ◌≤◌, ◌||◌, List, Bool, cond, false, Option, arith}
 use Rattle.std.specs.Prelude.{◌↔◌, ◌==◌, nat_lt}
 use Rattle.std.proofs.lemmas.Bool.Decides.{nat_tests}
-use Rattle.run_events_stats.specs.Counters.{UnitView, scripts_of, stats_of, tests_of}
+use Rattle.run_events_stats.specs.Counters.{UnitView, script_passed, scripts_of, stats_of, tests_of}
 use Rattle.run_events_stats.specs.RunLaws.{RunSucceeds, has_no_failure}
-use Rattle.run_events_stats.specs.ScriptCounters.{script_passed}
 use Rattle.run_events_stats.specs.Summary.{any_script_failed, any_test_failed, failed_scripts, failed_tests, failure, summary_of, tests_step}
 use Rattle.run_events_stats.specs.declared.outcome.FinalRunStats.TheVariants.{Success, NoTestsRun, Cancelled}
 use Rattle.run_events_stats.specs.declared.outcome.RunStatsFailureKind.{RunStatsFailureKind}

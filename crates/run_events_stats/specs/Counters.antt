@@ -1,15 +1,80 @@
 -- The counters of a run: each is the number of finished units that its rule holds of.
-use Rattle.std.specs.Prelude.{◌<◌, ◌^◌, ◌+◌, ℕ, Bool, if◌then◌else◌, List, length, filter, Option, Some, None}
+use Rattle.std.specs.Prelude.{◌<◌, ◌^◌, ◌+◌, ℕ, Bool, not, ◌&&◌, ◌||◌, if◌then◌else◌, List, length, filter, nat_lt, Option, Some, None}
 use Rattle.std.specs.List.{filter_map}
 use Rattle.run_events_attempts.specs.Attempts.{view_of}
 use Rattle.run_events_levels.specs.TestView.{TestView}
-use Rattle.run_events_stats.specs.TestCounters.{is_passed, is_passed_slow, is_passed_timed_out, is_flaky, is_failed, is_failed_slow, is_failed_timed_out, is_leaky, is_leaky_failed, is_exec_failed}
-use Rattle.run_events_stats.specs.ScriptCounters.{script_passed, script_failed, script_exec_failed, script_timed_out}
+use Rattle.run_events_results.specs.CancelReasons.{reason_rank}
+use Rattle.run_events_results.specs.Results.{succeeds, is_pass, is_leak_pass, is_leak_fail, is_fail, is_exec_fail, is_timeout_pass, is_timeout_fail, flaky_fails}
+use Rattle.run_events_results.specs.declared.results.CancelReason.{CancelReason}
 use Rattle.run_events_results.specs.declared.results.ExecutionResultDescription.{ExecutionResultDescription}
 use Rattle.run_events_stats.specs.declared.stats.FinishedUnit.{FinishedUnit}
 use Rattle.run_events_stats.specs.declared.stats.FinishedUnit.TheVariants.{Script, Test}
 use Rattle.run_events_stats.specs.declared.stats.RunStats.{RunStats}
 use Rattle.run_events_stats.specs.declared.stats.RunStart.{RunStart}
+
+-- there was an attempt before the last
+abbrev pub was_retried : TestView → Bool
+was_retried t = nat_lt 1 t.attempts
+
+-- it succeeded after a retry, and its setting fails flaky tests
+abbrev pub fails_as_flaky : TestView → Bool
+fails_as_flaky t = succeeds t.result && was_retried t && flaky_fails t.flaky_result
+
+-- `passed`: it succeeded, and is not a flaky test that counts as failed
+abbrev pub is_passed : TestView → Bool
+is_passed t = succeeds t.result && not (was_retried t && flaky_fails t.flaky_result)
+
+-- `failed`: it is flaky and counts as failed, or it failed, or it leaked and that counts as failed
+abbrev pub is_failed : TestView → Bool
+is_failed t = fails_as_flaky t || is_leak_fail t.result || is_fail t.result
+
+-- `exec_failed`: it could not be executed
+abbrev pub is_exec_failed : TestView → Bool
+is_exec_failed t = is_exec_fail t.result
+
+-- `failed_timed_out`: it ran out of time, and that counts as failed
+abbrev pub is_failed_timed_out : TestView → Bool
+is_failed_timed_out t = is_timeout_fail t.result
+
+-- `flaky`: it succeeded after a retry, and its setting passes flaky tests
+abbrev pub is_flaky : TestView → Bool
+is_flaky t = succeeds t.result && was_retried t && not (flaky_fails t.flaky_result)
+
+-- `leaky`: it leaked and that counts as passed, even if it is flaky and counts as failed
+abbrev pub is_leaky : TestView → Bool
+is_leaky t = is_leak_pass t.result
+
+-- `leaky_failed`: it leaked, and that counts as failed
+abbrev pub is_leaky_failed : TestView → Bool
+is_leaky_failed t = is_leak_fail t.result
+
+-- `passed_slow`: it is counted in `passed`, is slow, and did not run out of time
+abbrev pub is_passed_slow : TestView → Bool
+is_passed_slow t = is_passed t && t.is_slow && (is_pass t.result || is_leak_pass t.result)
+
+-- `passed_timed_out`: it is counted in `passed`, and ran out of time
+abbrev pub is_passed_timed_out : TestView → Bool
+is_passed_timed_out t = is_passed t && is_timeout_pass t.result
+
+-- `failed_slow`: it is counted in `failed`, and is slow
+abbrev pub is_failed_slow : TestView → Bool
+is_failed_slow t = is_failed t && t.is_slow
+
+-- `setup_scripts_passed`: it passed, or leaked and that counts as passed
+abbrev pub script_passed : ExecutionResultDescription → Bool
+script_passed r = is_pass r || is_leak_pass r
+
+-- `setup_scripts_failed`: it failed, or leaked and that counts as failed
+abbrev pub script_failed : ExecutionResultDescription → Bool
+script_failed r = is_fail r || is_leak_fail r
+
+-- `setup_scripts_exec_failed`: it could not be executed
+abbrev pub script_exec_failed : ExecutionResultDescription → Bool
+script_exec_failed r = is_exec_fail r
+
+-- `setup_scripts_timed_out`: it ran out of time, even if that counts as passed
+abbrev pub script_timed_out : ExecutionResultDescription → Bool
+script_timed_out r = is_timeout_pass r || is_timeout_fail r
 
 -- the part of a finished unit that decides the counters: the result of a script, or the view of a test
 pub data UnitView : Type 0 where
@@ -143,6 +208,46 @@ with_script s r = record s {
   setup_scripts_timed_out = plus_if s.setup_scripts_timed_out (script_timed_out r);
 }
 
+-- the greater of two reasons to cancel a run; no reason is less than any
+abbrev pub greater_of : Option CancelReason → Option CancelReason → Option CancelReason
+greater_of None other = other
+greater_of (Some one) None = Some one
+greater_of (Some one) (Some two) = if nat_lt (reason_rank one) (reason_rank two) then Some two else Some one
+
+-- the statistics of both parts: each counter is the sum of both
+abbrev pub sum_of : RunStats → RunStats → RunStats
+sum_of a b = record {
+  initial_run_count = a.initial_run_count + b.initial_run_count;
+  finished_count = a.finished_count + b.finished_count;
+  setup_scripts_initial_count = a.setup_scripts_initial_count + b.setup_scripts_initial_count;
+  setup_scripts_finished_count = a.setup_scripts_finished_count + b.setup_scripts_finished_count;
+  setup_scripts_passed = a.setup_scripts_passed + b.setup_scripts_passed;
+  setup_scripts_failed = a.setup_scripts_failed + b.setup_scripts_failed;
+  setup_scripts_exec_failed = a.setup_scripts_exec_failed + b.setup_scripts_exec_failed;
+  setup_scripts_timed_out = a.setup_scripts_timed_out + b.setup_scripts_timed_out;
+  passed = a.passed + b.passed;
+  passed_slow = a.passed_slow + b.passed_slow;
+  passed_timed_out = a.passed_timed_out + b.passed_timed_out;
+  flaky = a.flaky + b.flaky;
+  failed = a.failed + b.failed;
+  failed_slow = a.failed_slow + b.failed_slow;
+  failed_timed_out = a.failed_timed_out + b.failed_timed_out;
+  leaky = a.leaky + b.leaky;
+  leaky_failed = a.leaky_failed + b.leaky_failed;
+  exec_failed = a.exec_failed + b.exec_failed;
+  skipped = a.skipped + b.skipped;
+  cancel_reason = greater_of a.cancel_reason b.cancel_reason;
+}
+
+-- the start of a run in two parts
+abbrev pub start_of_both : RunStart → RunStart → RunStart
+start_of_both a b = record {
+  initial_run_count = a.initial_run_count + b.initial_run_count;
+  setup_scripts_initial_count = a.setup_scripts_initial_count + b.setup_scripts_initial_count;
+  skipped = a.skipped + b.skipped;
+  cancel_reason = greater_of a.cancel_reason b.cancel_reason;
+}
+
 -- each counter of tests fits `usize`
 pub record TestCountersFit (s : RunStats) : Type 0 where
   pub finished_count : s.finished_count < 2 ^ 64
@@ -164,3 +269,11 @@ pub record ScriptCountersFit (s : RunStats) : Type 0 where
   pub failed : s.setup_scripts_failed < 2 ^ 64
   pub exec_failed : s.setup_scripts_exec_failed < 2 ^ 64
   pub timed_out : s.setup_scripts_timed_out < 2 ^ 64
+
+-- each counter fits `usize`
+pub record CountersFit (s : RunStats) : Type 0 where
+  pub initial_run_count : s.initial_run_count < 2 ^ 64
+  pub setup_scripts_initial_count : s.setup_scripts_initial_count < 2 ^ 64
+  pub skipped : s.skipped < 2 ^ 64
+  pub tests : TestCountersFit s
+  pub scripts : ScriptCountersFit s

@@ -4,8 +4,7 @@ use Rattle.std.specs.List.{All, fold, position_or_len, sum_by}
 use Rattle.std.specs.Prelude.{if◌then◌else◌, nat_lt}
 use Rattle.std.proofs.lemmas.List.Elements.{All-append, All-cons, All-drop, All-head, All-nil, All-tail, All-take}
 use Rattle.std.proofs.lemmas.List.Sums.{sum_by-cons}
-use Rattle.run_events_stats.specs.Counters.{counters_of, nothing_known, with_test}
-use Rattle.run_events_stats.specs.Sum as stats
+use Rattle.run_events_stats.specs.Counters.{counters_of, nothing_known, sum_of, with_test}
 use Rattle.run_events_stats.specs.Summary.{failed_tests}
 use Rattle.run_events_stats.specs.declared.stats.RunStats.{RunStats}
 use Rattle.test_report_events.specs.Event.{EventView, TestEndView}
@@ -229,7 +228,7 @@ module _ (counter : RunStats → ℕ) (rule : OutcomeView → ℕ → Bool → �
       → sum_by (of_test rule) (all_notes slow files) ≡ sum_by (of_suite (λ s. counter s.stats)) (all_notes slow files)
   sums-up slow files = let sums = (holds-whole counter-rules slow files).whole in omega (arith, sums.high refl)
 
-  pub total : ((a b : RunStats) → counter (stats.sum_of a b) ≡ counter a + counter b) → (slow : ℕ) (files : List (List EventView))
+  pub total : ((a b : RunStats) → counter (sum_of a b) ≡ counter a + counter b) → (slow : ℕ) (files : List (List EventView))
       → counter (fold with_note no_suites (all_notes slow files)).stats ≡ sum_by (of_test rule) (all_notes slow files)
   total adds slow files = omega (
     arith,

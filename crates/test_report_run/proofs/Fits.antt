@@ -31,19 +31,7 @@ only-ok (Err f) is = absurd (true≢false (sym is))
 
 -- they fit before a test if they do after it
 fits-before : (s : RunStats) (t : TestView) → TestCountersFit (with_test s t) → TestCountersFit s
-fits-before s t fits = record {
-  finished_count = omega (arith, fits.finished_count);
-  passed = omega (arith, fits.passed);
-  passed_slow = omega (arith, fits.passed_slow);
-  passed_timed_out = omega (arith, fits.passed_timed_out);
-  flaky = omega (arith, fits.flaky);
-  failed = omega (arith, fits.failed);
-  failed_slow = omega (arith, fits.failed_slow);
-  failed_timed_out = omega (arith, fits.failed_timed_out);
-  leaky = omega (arith, fits.leaky);
-  leaky_failed = omega (arith, fits.leaky_failed);
-  exec_failed = omega (arith, fits.exec_failed);
-}
+fits-before s t fits = grind (arith, fits)
 
 -- a step that leaves no counter lower
 abbrev pub Raises : {X : Type 0} → (RunStats → X → RunStats) → Type 0

@@ -6,8 +6,7 @@ use Rattle.std.specs.List.{All, fold, remove}
 use Rattle.std.specs.Option.{option_map_or}
 use Rattle.std.proofs.lemmas.List.Elements.{All-cons, All-get_or, All-head, All-nil, All-tail}
 use Rattle.std.proofs.lemmas.List.{get_or-set_same, length-map, length-set, map-append, take-append-drop, take_more}
-use Rattle.run_events_stats.specs.Counters.{TestCountersFit}
-use Rattle.run_events_stats.specs.Sum.{CountersFit, sum_of}
+use Rattle.run_events_stats.specs.Counters.{CountersFit, TestCountersFit, sum_of}
 use Rattle.run_events_stats.specs.declared.stats.RunStats.{RunStats}
 use Rattle.test_report_events.specs.Event.{SuiteEndView}
 use Rattle.test_report_run_notes.specs.Note.{Disagrees, FlakyEnds, HasNoEnd, IsNotRun, NoteView, SuiteIs, TestIs, note_view, text_view}
@@ -27,46 +26,10 @@ use Rattle.test_report_run.proofs.Runs.{boxed_state, suite-at}
 
 -- both parts of a sum that fits fit
 counters-before : (a b : RunStats) → CountersFit (sum_of a b) → CountersFit a
-counters-before a b fits = record {
-  initial_run_count = omega (arith, fits.initial_run_count);
-  setup_scripts_initial_count = omega (arith, fits.setup_scripts_initial_count);
-  skipped = omega (arith, fits.skipped);
-  tests = record {
-    finished_count = omega (arith, fits.tests.finished_count);
-    passed = omega (arith, fits.tests.passed);
-    passed_slow = omega (arith, fits.tests.passed_slow);
-    passed_timed_out = omega (arith, fits.tests.passed_timed_out);
-    flaky = omega (arith, fits.tests.flaky);
-    failed = omega (arith, fits.tests.failed);
-    failed_slow = omega (arith, fits.tests.failed_slow);
-    failed_timed_out = omega (arith, fits.tests.failed_timed_out);
-    leaky = omega (arith, fits.tests.leaky);
-    leaky_failed = omega (arith, fits.tests.leaky_failed);
-    exec_failed = omega (arith, fits.tests.exec_failed);
-  };
-  scripts = record {
-    finished = omega (arith, fits.scripts.finished);
-    passed = omega (arith, fits.scripts.passed);
-    failed = omega (arith, fits.scripts.failed);
-    exec_failed = omega (arith, fits.scripts.exec_failed);
-    timed_out = omega (arith, fits.scripts.timed_out);
-  };
-}
+counters-before a b fits = grind (arith, fits)
 
 tests-part : (a b : RunStats) → CountersFit (sum_of a b) → TestCountersFit b
-tests-part a b fits = record {
-  finished_count = omega (arith, fits.tests.finished_count);
-  passed = omega (arith, fits.tests.passed);
-  passed_slow = omega (arith, fits.tests.passed_slow);
-  passed_timed_out = omega (arith, fits.tests.passed_timed_out);
-  flaky = omega (arith, fits.tests.flaky);
-  failed = omega (arith, fits.tests.failed);
-  failed_slow = omega (arith, fits.tests.failed_slow);
-  failed_timed_out = omega (arith, fits.tests.failed_timed_out);
-  leaky = omega (arith, fits.tests.leaky);
-  leaky_failed = omega (arith, fits.tests.leaky_failed);
-  exec_failed = omega (arith, fits.tests.exec_failed);
-}
+tests-part a b fits = grind (arith, fits)
 
 -- the sums over suites fit before a note if they do after it, and so do the numbers of its suite
 ends-before : (e : RunEnd) (n : NoteView) → EndFits (with_note e n) → EndFits e

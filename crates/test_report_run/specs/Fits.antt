@@ -2,8 +2,7 @@
 use Rattle.std.specs.Prelude.{◌≡◌, ◌+◌, ◌<◌, ◌^◌, ⊤, ℕ, IfErr, List, Option, length, unwrap_or}
 use Rattle.std.specs.List.{All}
 use Rattle.std.specs.declared.result.Result.{Result}
-use Rattle.run_events_stats.specs.Counters.{TestCountersFit}
-use Rattle.run_events_stats.specs.Sum.{CountersFit}
+use Rattle.run_events_stats.specs.Counters.{CountersFit, TestCountersFit}
 use Rattle.test_report_run_notes.specs.Note.{Disagrees, FlakyEnds, IsNotRun, NoteView, SuiteIs, TestIs}
 use Rattle.test_report_run_notes.specs.declared.note.RunEnd.{RunEnd}
 use Rattle.test_report_run.specs.Others.{OthersView}

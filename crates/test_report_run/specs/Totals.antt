@@ -1,8 +1,7 @@
 -- The sums over all suites of a run.
 use Rattle.std.specs.Prelude.{◌+◌, [], ℕ, if◌then◌else◌, nat_lt, None}
-use Rattle.run_events_stats.specs.Counters.{counters_of, nothing_known}
+use Rattle.run_events_stats.specs.Counters.{counters_of, nothing_known, sum_of}
 use Rattle.run_events_stats.specs.Outcome.{combined, outcome_of}
-use Rattle.run_events_stats.specs.Sum as stats
 use Rattle.run_events_stats.specs.Summary.{summary_of}
 use Rattle.run_events_stats.specs.declared.outcome.RunFailureStep.TheVariants as step
 use Rattle.run_events_stats.specs.declared.outcome.run_outcome.RunOutcome.{RunOutcome}
@@ -31,7 +30,7 @@ no_suites = record {
 -- the sums over one suite more
 abbrev pub with_suite : RunEnd → SuiteNoteView → RunEnd
 with_suite e s = record {
-  stats = stats.sum_of e.stats s.stats;
+  stats = sum_of e.stats s.stats;
   skipped = e.skipped + s.skipped;
   not_run = e.not_run + s.not_run;
   crashed = e.crashed + s.crashed;

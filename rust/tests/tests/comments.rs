@@ -1,16 +1,15 @@
-//! Comments and sentences that name the reasons and the counters to which they apply.
+//! Comments and sentences that name the reasons to which they apply.
 
 use deodarsieve::{
     AbortDescription, CancelReason, ExecutionResultDescription, FailureDescription, FinalRunStats,
     FinalStatusLevel, RunStats, StatusLevel, StatusLevels, TestOutputDisplay,
 };
-use deodarsieve_tests::named::{COUNTERS, reasons, word_of};
+use deodarsieve_tests::named::{reasons, word_of};
 
 const HEADER: &str = include_str!("../../c/include/deodarsieve.h");
 const LAWS: &str = include_str!("../../../crates/run_events_results/src/laws.rt");
 const OUTPUT: &str = include_str!("../../../crates/run_events_levels/src/levels/output.rt");
 const RUN_DIGEST: &str = include_str!("../../../docs/RUN-DIGEST.md");
-const RUN_LAWS: &str = include_str!("../../../crates/run_events_stats/specs/RunLaws.antt");
 const VISIBILITY: &str = include_str!("../../../crates/run_events_levels/specs/Visibility.antt");
 
 /// Returns the names between two texts: parts of letters, `-` and `_`.
@@ -128,20 +127,4 @@ fn the_least_and_the_most_severe_reason() {
     let reasons: Vec<_> = reasons().into_iter().flatten().collect();
     let is_end = |reason| Some(&reason) == reasons.first() || Some(&reason) == reasons.last();
     assert_named(&found, variant_of, is_end);
-}
-
-#[test]
-fn each_counter_of_two_parts_is_added() {
-    let of_start = [
-        "initial_run_count",
-        "setup_scripts_initial_count",
-        "skipped",
-    ];
-    for name in COUNTERS
-        .iter()
-        .filter(|name| !of_start.contains(&name.as_str()))
-    {
-        let law = format!("  pub {name} : whole.{name} ≡ a.{name} + b.{name}\n");
-        assert!(RUN_LAWS.contains(&law), "{name} in IsSum of RunLaws.antt");
-    }
 }

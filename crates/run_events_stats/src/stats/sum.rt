@@ -1,8 +1,7 @@
 //! The sum of the statistics of two parts of a run.
 
 ghost use Rattle.std.specs.Prelude.{◌≡◌, ◌↔◌, ◌+◌, ◌<◌, ◌^◌, ◌++◌, IsOk, IsTrue, List, OnErr, OnOk};
-ghost use Rattle.run_events_stats.specs.Counters.{ScriptCountersFit, TestCountersFit, UnitView, stats_of};
-ghost use Rattle.run_events_stats.specs.Sum.{CountersFit, greater_of, start_of_both, sum_of};
+ghost use Rattle.run_events_stats.specs.Counters.{CountersFit, ScriptCountersFit, TestCountersFit, UnitView, greater_of, start_of_both, stats_of, sum_of};
 ghost use Rattle.run_events_stats.specs.declared.stats.RunStart.{RunStart};
 
 use crate::stats::{CounterFull, RunStats};

@@ -1,6 +1,5 @@
 use Rattle.std.proofs.Common.{ap, sym, ◌∙◌}
-use Rattle.run_events_stats.specs.Counters.{stats_of}
-use Rattle.run_events_stats.specs.Sum.{sum_of}
+use Rattle.run_events_stats.specs.Counters.{stats_of, sum_of}
 use Rattle.run_events_stats.proofs.Parts.{sum-of-both}
 use Rattle.run_events_stats.proofs.stats.RunStats.try_add.Goals as goal
 
