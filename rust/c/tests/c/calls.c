@@ -170,6 +170,21 @@ static bool are_same(const deodarsieve_run_stats *one, const deodarsieve_run_sta
     return memcmp(one, other, COUNTERS_SIZE) == 0 && one->cancel_reason == other->cancel_reason;
 }
 
+/* Counters that all differ, after those of a unit are added. */
+static deodarsieve_run_stats different_counters_with(const deodarsieve_run_stats *unit)
+{
+    deodarsieve_run_stats stats = different_counters();
+    size_t counters[COUNTERS_SIZE / sizeof(size_t)], more[COUNTERS_SIZE / sizeof(size_t)];
+    size_t i;
+
+    memcpy(counters, &stats, sizeof counters);
+    memcpy(more, unit, sizeof more);
+    for (i = 0; i < sizeof counters / sizeof counters[0]; i++)
+        counters[i] += more[i];
+    memcpy(&stats, counters, sizeof counters);
+    return stats;
+}
+
 static deodarsieve_test_view view_of(uint32_t kind, size_t attempts, bool is_slow, uint32_t flaky)
 {
     deodarsieve_test_view test = {{0, 9}, 0, false, 0};
@@ -181,85 +196,37 @@ static deodarsieve_test_view view_of(uint32_t kind, size_t attempts, bool is_slo
     return test;
 }
 
-/* Counts one test, and compares the counters with those that `raise` raises. */
-static void expect_test(deodarsieve_test_view test, void (*raise)(deodarsieve_run_stats *))
+/* Tests, and the counters that nextest's own code raises for each. tools/calls-from-outside writes the rows, from
+   the data of the replay. */
+static const struct {
+    deodarsieve_test_view test;
+    deodarsieve_run_stats raised;
+} counted_tests[] = {
+#include "counted_tests.h"
+};
+
+/* Counts one test, and compares the counters that this raises. */
+static void expect_test(const deodarsieve_test_view *test, const deodarsieve_run_stats *raised)
 {
     deodarsieve_run_stats stats = different_counters();
-    deodarsieve_run_stats expected = different_counters();
+    const deodarsieve_run_stats expected = different_counters_with(raised);
 
-    expected.finished_count++;
-    raise(&expected);
-    CHECK(deodarsieve_run_stats_count_test(&stats, &test) == DEODARSIEVE_OK);
+    CHECK(deodarsieve_run_stats_count_test(&stats, test) == DEODARSIEVE_OK);
     CHECK(are_same(&stats, &expected));
 }
 
-static void raise_passed(deodarsieve_run_stats *stats)
-{
-    stats->passed++;
-}
-
-static void raise_slow_leaky(deodarsieve_run_stats *stats)
-{
-    stats->passed++;
-    stats->passed_slow++;
-    stats->leaky++;
-}
-
-static void raise_passed_timeout(deodarsieve_run_stats *stats)
-{
-    stats->passed++;
-    stats->passed_timed_out++;
-}
-
-static void raise_flaky(deodarsieve_run_stats *stats)
-{
-    stats->passed++;
-    stats->flaky++;
-}
-
-static void raise_slow_failure(deodarsieve_run_stats *stats)
-{
-    stats->failed++;
-    stats->failed_slow++;
-}
-
-static void raise_leaky_failure(deodarsieve_run_stats *stats)
-{
-    stats->failed++;
-    stats->leaky_failed++;
-}
-
-static void raise_failed_timeout(deodarsieve_run_stats *stats)
-{
-    stats->failed_timed_out++;
-}
-
-static void raise_exec_failure(deodarsieve_run_stats *stats)
-{
-    stats->exec_failed++;
-}
-
-static void raise_failure(deodarsieve_run_stats *stats)
-{
-    stats->failed++;
-}
-
+/* A test with no attempt counts as one with one attempt, and a test with three as one with two. */
 static void test_run_stats_count_test(void)
 {
-    const uint32_t pass = DEODARSIEVE_FLAKY_PASS, fail = DEODARSIEVE_FLAKY_FAIL;
+    deodarsieve_test_view test;
+    size_t i;
 
-    expect_test(view_of(DEODARSIEVE_RESULT_PASS, 1, false, fail), raise_passed);
-    expect_test(view_of(DEODARSIEVE_RESULT_LEAK_PASS, 1, true, pass), raise_slow_leaky);
-    expect_test(view_of(DEODARSIEVE_RESULT_TIMEOUT_PASS, 1, true, pass), raise_passed_timeout);
-    expect_test(view_of(DEODARSIEVE_RESULT_PASS, 3, false, pass), raise_flaky);
-    expect_test(view_of(DEODARSIEVE_RESULT_PASS, 2, false, fail), raise_failure);
-    expect_test(view_of(DEODARSIEVE_RESULT_EXIT_CODE, 2, true, pass), raise_slow_failure);
-    expect_test(view_of(DEODARSIEVE_RESULT_UNIX_SIGNAL, 1, false, pass), raise_failure);
-    expect_test(view_of(DEODARSIEVE_RESULT_WINDOWS_NT_STATUS, 0, false, pass), raise_failure);
-    expect_test(view_of(DEODARSIEVE_RESULT_WINDOWS_JOB_OBJECT, 1, false, pass), raise_failure);
-    expect_test(view_of(DEODARSIEVE_RESULT_LEAK_FAIL, 1, false, pass), raise_leaky_failure);
-    expect_test(view_of(DEODARSIEVE_RESULT_TIMEOUT_FAIL, 1, true, pass), raise_failed_timeout);
-    expect_test(view_of(DEODARSIEVE_RESULT_EXEC_FAIL, 1, false, pass), raise_exec_failure);
+    for (i = 0; i < sizeof counted_tests / sizeof *counted_tests; i++) {
+        test = counted_tests[i].test;
+        expect_test(&test, &counted_tests[i].raised);
+        test.attempts = test.attempts == 1 ? 0 : 3;
+        expect_test(&test, &counted_tests[i].raised);
+    }
 }
 
 /* Counts one test whose status is not OK: nothing changes. */
@@ -294,35 +261,26 @@ static void test_refused_tests(void)
     CHECK(stats.finished_count == SIZE_MAX && stats.passed == 1 && stats.failed == SIZE_MAX);
 }
 
-/* Counts one script: `counter` is the one that its result raises. */
-static void expect_script(uint32_t kind, size_t *counter, deodarsieve_run_stats *expected)
-{
-    const deodarsieve_result script = {kind, 3};
-    deodarsieve_run_stats stats = *expected;
-
-    expected->setup_scripts_finished_count++;
-    ++*counter;
-    CHECK(deodarsieve_run_stats_count_script(&stats, &script) == DEODARSIEVE_OK);
-    CHECK(are_same(&stats, expected));
-}
+/* Results of setup scripts, and the counters that nextest's own code raises for each. tools/calls-from-outside writes
+   these rows, too. */
+static const struct {
+    deodarsieve_result script;
+    deodarsieve_run_stats raised;
+} counted_scripts[] = {
+#include "counted_scripts.h"
+};
 
 static void test_run_stats_count_script(void)
 {
-    deodarsieve_run_stats expected = different_counters();
-    size_t *const passed = &expected.setup_scripts_passed;
-    size_t *const failed_scripts = &expected.setup_scripts_failed;
-    size_t *const timed_out = &expected.setup_scripts_timed_out;
+    size_t i;
 
-    expect_script(DEODARSIEVE_RESULT_PASS, passed, &expected);
-    expect_script(DEODARSIEVE_RESULT_LEAK_PASS, passed, &expected);
-    expect_script(DEODARSIEVE_RESULT_LEAK_FAIL, failed_scripts, &expected);
-    expect_script(DEODARSIEVE_RESULT_EXIT_CODE, failed_scripts, &expected);
-    expect_script(DEODARSIEVE_RESULT_UNIX_SIGNAL, failed_scripts, &expected);
-    expect_script(DEODARSIEVE_RESULT_WINDOWS_NT_STATUS, failed_scripts, &expected);
-    expect_script(DEODARSIEVE_RESULT_WINDOWS_JOB_OBJECT, failed_scripts, &expected);
-    expect_script(DEODARSIEVE_RESULT_EXEC_FAIL, &expected.setup_scripts_exec_failed, &expected);
-    expect_script(DEODARSIEVE_RESULT_TIMEOUT_PASS, timed_out, &expected);
-    expect_script(DEODARSIEVE_RESULT_TIMEOUT_FAIL, timed_out, &expected);
+    for (i = 0; i < sizeof counted_scripts / sizeof *counted_scripts; i++) {
+        deodarsieve_run_stats stats = different_counters();
+        const deodarsieve_run_stats expected = different_counters_with(&counted_scripts[i].raised);
+
+        CHECK(deodarsieve_run_stats_count_script(&stats, &counted_scripts[i].script) == DEODARSIEVE_OK);
+        CHECK(are_same(&stats, &expected));
+    }
 }
 
 static void test_refused_scripts(void)
