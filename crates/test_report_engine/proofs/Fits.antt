@@ -4,7 +4,8 @@ use Rattle.std.specs.Prelude.{IsErrAnd}
 use Rattle.std.specs.declared.result.Result.{Result}
 use Rattle.std.specs.declared.result.Result.TheVariants.{Ok, Err}
 use Rattle.test_report_events.specs.Event.{CommandView, EventView}
-use Rattle.test_report_run.specs.Run.{RunState, after_file, run_state}
+use Rattle.test_report_run.specs.FileEnd.{after_file}
+use Rattle.test_report_run.specs.Run.{RunState, run_state}
 use Rattle.test_report_run.specs.RunFits.{EachFits, RunFits}
 use Rattle.test_report_run.specs.declared.error.RunError.{RunError}
 use Rattle.test_report_run.specs.declared.error.RunError.TheVariants as run

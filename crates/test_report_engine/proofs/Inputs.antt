@@ -10,7 +10,8 @@ use Rattle.test_report_run_notes.specs.declared.note.RunEnd.{RunEnd}
 use Rattle.test_report_forms.specs.Entry.{EntryView}
 use Rattle.test_report_forms.specs.Laws.{OneEntry}
 use Rattle.test_report_run.specs.Run as spec
-use Rattle.test_report_run.specs.Run.{RunState, after_file, file_notes, run_state}
+use Rattle.test_report_run.specs.FileEnd.{after_file, file_notes}
+use Rattle.test_report_run.specs.Run.{RunState, run_state}
 use Rattle.test_report_run.specs.declared.run.TestRun.{TestRun}
 use Rattle.test_report_engine.specs.Fits.{InputFits, LineEventsFit}
 use Rattle.test_report_engine.specs.Lines.{IsOneLine, events_after, with_feed}

@@ -15,7 +15,8 @@ use Rattle.test_report_forms.specs.Files.{FilesKnow, FilesSay}
 use Rattle.test_report_forms.specs.Laws.{OneEntry}
 use Rattle.test_report_forms.specs.declared.files.FileForms.{FileForms}
 use Rattle.test_report_forms.specs.declared.files.FileTexts.{FileTexts}
-use Rattle.test_report_run.specs.Run.{RunState, after, end_of, run_start, run_state}
+use Rattle.test_report_run.specs.FileEnd.{end_of}
+use Rattle.test_report_run.specs.Run.{RunState, after, run_start, run_state}
 use Rattle.test_report_run.specs.declared.run.TestRun.{TestRun}
 use Rattle.test_report_engine.specs.Lines.{AreEventsOf, InputView, events_after, file, output}
 use Rattle.test_report_engine.specs.Reading.{AnyRestFits, AppendsLinesStart, BreaksOff, BreaksOffEnd, FilesHaveRead, Finishes, HasRead, ReadsAnyStart, ReadsInput, ReadsOneMore, ReadsPiece, ReadsSome, ReadsStart, RestFits, StartsCommand, WritesNotes, piece_size}

@@ -2,7 +2,8 @@
 use Rattle.std.specs.Prelude.{◌≢◌, List, [], ◌∷◌, IfErr}
 use Rattle.std.specs.declared.result.Result.{Result}
 use Rattle.test_report_events.specs.Event.{EventView}
-use Rattle.test_report_run.specs.Run.{RunState, after_file}
+use Rattle.test_report_run.specs.FileEnd.{after_file}
+use Rattle.test_report_run.specs.Run.{RunState}
 use Rattle.test_report_run.specs.RunFits.{EachFits, RunFits}
 use Rattle.test_report_engine.specs.Report.{after_line}
 use Rattle.test_report_engine.specs.declared.fault.Fault.{Fault}

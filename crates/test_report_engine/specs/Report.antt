@@ -9,7 +9,8 @@ use Rattle.test_report_forms.specs.Files.{FilesSay}
 use Rattle.test_report_forms.specs.declared.files.FileForms.{FileForms}
 use Rattle.test_report_forms.specs.declared.files.FileTexts.{FileTexts}
 use Rattle.test_report_run.specs.Run as spec
-use Rattle.test_report_run.specs.Run.{RunState, after_file, end_of, file_notes, run_start, run_state}
+use Rattle.test_report_run.specs.FileEnd.{after_file, end_of, file_notes}
+use Rattle.test_report_run.specs.Run.{RunState, run_start, run_state}
 use Rattle.test_report_run.specs.declared.run.TestRun.{TestRun}
 use Rattle.test_report_engine.specs.Lines.{AreEventsOf, InputView}
 

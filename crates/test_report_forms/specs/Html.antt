@@ -11,7 +11,7 @@ use Rattle.template.specs.Template.{Parts, Values, parts_text, values_of}
 use Rattle.template.specs.declared.hole.Hole.TheVariants as hole
 use Rattle.test_report_run_notes.specs.declared.note.RunEnd.{RunEnd}
 use Rattle.test_report_forms.specs.Entry.{EntryView}
-use Rattle.test_report_forms.specs.Flaky.{FlakyView}
+use Rattle.test_report_forms.specs.Flaky.{FlakyRowView}
 use Rattle.test_report_forms.specs.Holes.{HoleView, PhraseView, has_hole, holes, number_holes, output_holes, phrase_text, phrases, problem_holes, shows_phrase}
 use Rattle.test_report_forms.specs.Model.{FailedView, ProblemView, RowView}
 use Rattle.test_report_forms.specs.Skipped.{SkippedView}
@@ -107,7 +107,7 @@ reason_phrase =
 abbrev pub bar_phrase : List ℕ
 bar_phrase =
     codes "{{#bar}}<div class=\"bar\" aria-hidden=\"true\">{{#part}}"
-    ++ codes "<span class=\"{{class}}\" style=\"flex-grow: {{number}}\">{{number}}</span>{{/part}}</div>"
+    ++ codes "<span class=\"{{class}}\" style=\"flex-grow: {{number}}\">{{number}}</span> {{/part}}</div>"
 
 -- the row of a suite: its name, its numbers in words and its time
 abbrev pub suite_phrase : List ℕ
@@ -204,7 +204,7 @@ abbrev pub skip_text : SkippedView → List ℕ
 skip_text t = phrase_text skip_phrase (skip_values t)
 
 -- the row of a test that passed after several attempts
-abbrev pub flaky_text : FlakyView → List ℕ
+abbrev pub flaky_text : FlakyRowView → List ℕ
 flaky_text t = phrase_text flaky_phrase (flaky_values t)
 
 -- The template of the page is one element without control characters. It ends by `/>` only elements that have no content in HTML, and none of these by

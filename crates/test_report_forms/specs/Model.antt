@@ -7,7 +7,7 @@ use Rattle.run_events_stats.specs.declared.outcome.run_outcome.RunOutcome.TheVar
 use Rattle.test_report_run_notes.specs.Note.{CargoSays, CommandFails, DisagreementView, EndsEarly, FailureView, HasNoEvent, IsDamaged, SaysOther, StartsOutside, StrayEnds, StraySuiteEnds, SuiteNoteView, TestNoteView, text_view}
 use Rattle.test_report_run_notes.specs.declared.note.RunEnd.{RunEnd}
 use Rattle.test_report_forms.specs.Entry.{EntryView, FlakyPassed, LinesDisagree, SuiteNotRun, SuiteOver, TestFailed, TestPassed, TestSkipped}
-use Rattle.test_report_forms.specs.Flaky.{FlakyView, flaky_tests, flaky_view}
+use Rattle.test_report_forms.specs.Flaky.{FlakyRowView, flaky_tests, flaky_row_view}
 use Rattle.test_report_forms.specs.List.{KeyedLine, kept_lines, put_falling}
 use Rattle.test_report_forms.specs.Shown.{front, shown_name, shown_text}
 use Rattle.test_report_forms.specs.ShownWhy.{limited_why, shown_why}
@@ -287,7 +287,7 @@ pub record ReportView : Type 0 where
   pub suites : List RowView
   pub slowest : List KeyedLine
   pub skipped : List SkippedView
-  pub flaky : List FlakyView
+  pub flaky : List FlakyRowView
 
 -- the report of a run with these entries, with the outputs that the limits allow
 abbrev pub report_of : OutputLimits → Options → List EntryView → RunEnd → ReportView
@@ -310,7 +310,7 @@ report_view m end = record {
   suites = map row_view m.suites.items;
   slowest = kept_lines m.slowest;
   skipped = map skipped_view m.skipped.items;
-  flaky = map flaky_view m.flaky.items;
+  flaky = map flaky_row_view m.flaky.items;
 }
 
 -- what is kept is of these entries, with the outputs that the limits allow
@@ -323,4 +323,4 @@ pub record IsModelOf (limits : OutputLimits) (m : ReportModel) (entries : List E
   pub slowest : kept_lines m.slowest ≡ slowest_tests entries
   pub most : m.slowest.most ≡ 10
   pub skipped : map skipped_view m.skipped.items ≡ skipped_tests entries
-  pub flaky : map flaky_view m.flaky.items ≡ flaky_tests entries
+  pub flaky : map flaky_row_view m.flaky.items ≡ flaky_tests entries

@@ -5,7 +5,7 @@ use Rattle.std.specs.List.{list_any}
 use Rattle.template.specs.Template.{ItemValue, NoValues, TextValue, ValueView, Values, section, values_of}
 use Rattle.test_report_run_notes.specs.declared.note.RunEnd.{RunEnd}
 use Rattle.test_report_forms.specs.Entry.{EntryView}
-use Rattle.test_report_forms.specs.Flaky.{FlakyView}
+use Rattle.test_report_forms.specs.Flaky.{FlakyRowView}
 use Rattle.test_report_forms.specs.List.{KeyedLine}
 use Rattle.test_report_forms.specs.Model.{FailedView, ProblemView, ReportView, RowView, numbers_of_run, report_of}
 use Rattle.test_report_forms.specs.Shown.{seconds}
@@ -150,11 +150,11 @@ abbrev pub skip_items : List SkippedView → List ValueView
 skip_items tests = items (codes "skip") skip_values tests
 
 -- the values of a test that passed after several attempts
-abbrev pub flaky_values : FlakyView → List ValueView
+abbrev pub flaky_values : FlakyRowView → List ValueView
 flaky_values t = (one_text (codes "name") t.name ++ one_text (codes "attempts") (decimal t.attempts)) ++ time_item t.time
 
 -- the tests that passed after several attempts
-abbrev pub flaky_items : List FlakyView → List ValueView
+abbrev pub flaky_items : List FlakyRowView → List ValueView
 flaky_items tests = items (codes "test") flaky_values tests
 
 -- a number

@@ -4,7 +4,7 @@ ghost use Rattle.std.specs.Prelude.{◌≡◌, ◌++◌, ◌∷◌, [], IfOk, Li
 ghost use Rattle.std.specs.List.{fold};
 ghost use Rattle.test_report_run_notes.specs.Note.{suite_view, test_view};
 ghost use Rattle.test_report_forms.specs.Entry.{EntryView, entry_view};
-ghost use Rattle.test_report_forms.specs.Flaky.{flaky_of_entry, flaky_view};
+ghost use Rattle.test_report_forms.specs.Flaky.{flaky_of_entry, flaky_row_view};
 ghost use Rattle.test_report_forms.specs.List.{kept_lines, put_falling};
 ghost use Rattle.test_report_forms.specs.Model as spec;
 ghost use Rattle.test_report_forms.specs.Model.{IsModelOf, failed_view, problem_view, row_view};
@@ -15,7 +15,7 @@ ghost use Rattle.test_report_forms.specs.declared.whole_output.OutputLimits.{Out
 use crate::cause::{Problem, cause_of};
 use crate::entry::Entry;
 use crate::failed_test::{FailedTest, shown_failure};
-use crate::flaky_test::FlakyTest;
+use crate::flaky_row::FlakyRow;
 use crate::junit_case::shared_text;
 use crate::numbers::Numbers;
 use crate::options::Options;
@@ -86,7 +86,7 @@ pub struct ReportModel {
     pub(crate) skipped: Vec<SkippedTest>,
 
     /// The tests that passed after several attempts.
-    pub(crate) flaky: Vec<FlakyTest>,
+    pub(crate) flaky: Vec<FlakyRow>,
 }
 
 impl ReportModel {
@@ -230,16 +230,12 @@ fn keep_skipped(
 }
 
 /// Keeps the test of an entry, if it passed after several attempts.
-fn keep_flaky(
-    alloc: Global,
-    flaky: &mut Vec<FlakyTest>,
-    entry: &Entry<'_>,
-) -> Result<(), AllocError>
-    ensures { OnOk result (map flaky_view flaky.new.items ≡ map flaky_view flaky.old.items
+fn keep_flaky(alloc: Global, flaky: &mut Vec<FlakyRow>, entry: &Entry<'_>) -> Result<(), AllocError>
+    ensures { OnOk result (map flaky_row_view flaky.new.items ≡ map flaky_row_view flaky.old.items
         ++ option_to_list (flaky_of_entry (entry_view entry.now))) }
 {
     if let Entry::Passed(test) = entry {
-        if let Some(shown) = FlakyTest::of(alloc, test)? {
+        if let Some(shown) = FlakyRow::of(alloc, test)? {
             flaky.push(shown)?;
         }
     }

@@ -20,7 +20,8 @@ use Rattle.test_report_laws.proofs.Weights.{keeps-line, ready-suites, weigh, wei
 use Rattle.test_report_run.specs.Running.{RunningView}
 use Rattle.test_report_run.specs.Others.{OthersView}
 use Rattle.test_report_run.specs.Over.{early_notes, early_state, explained_of, last_notes, last_state, rest_of}
-use Rattle.test_report_run.specs.Run.{RunState, Step, after, ended_at, ended_early, file_notes, heard, learned, tests_in, notes_at, open_suite, opened, run_start, settled_at, started_again, step, stray_suite_notes, suite_at, with_suite_at, without_tests}
+use Rattle.test_report_run.specs.FileEnd.{file_notes}
+use Rattle.test_report_run.specs.Run.{RunState, Step, after, ended_at, ended_early, heard, learned, tests_in, notes_at, open_suite, opened, run_start, settled_at, started_again, step, stray_suite_notes, suite_at, with_suite_at, without_tests}
 use Rattle.test_report_run.specs.Said.{sum_of}
 use Rattle.test_report_laws.specs.Status.{AnnouncedAreCounted, announced_by}
 use Rattle.test_report_run.specs.Suite.{SuiteState, cancelled_by, has_key, joined_by, outside_start, suite_start, with_line}

@@ -9,7 +9,8 @@ use Rattle.test_report_events.specs.declared.event.TestResult.{TestResult}
 use Rattle.test_report_events.specs.declared.event.TestResult.TheVariants.{Ok, Failed, Ignored}
 use Rattle.test_report_run.specs.Events.{is_event}
 use Rattle.test_report_run.specs.Over.{last_notes}
-use Rattle.test_report_run.specs.Run.{RunState, Step, all_ended_early, ended_at, ended_early, tests_in, open_suite, opened, place_of_number, running_ends, slow_at, started_again, step, stray_ends, stray_suite_notes, suite_at, suite_place, told, with_suite_at, without_tests}
+use Rattle.test_report_run.specs.FileEnd.{all_ended_early}
+use Rattle.test_report_run.specs.Run.{RunState, Step, ended_at, ended_early, tests_in, open_suite, opened, place_of_number, running_ends, slow_at, started_again, step, stray_ends, stray_suite_notes, suite_at, suite_place, told, with_suite_at, without_tests}
 use Rattle.test_report_run.specs.Running.{is_same, place_of_end, running_at}
 use Rattle.test_report_run.specs.Suite.{SuiteState, cancelled_by, outside_start, with_line}
 

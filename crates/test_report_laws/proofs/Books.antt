@@ -23,7 +23,8 @@ use Rattle.test_report_run.specs.Ended.{after_end, end_notes}
 use Rattle.test_report_run.specs.Others.{OthersView, after_failure}
 use Rattle.test_report_run.specs.Over.{early_notes, explained_of, last_notes}
 use Rattle.test_report_run.specs.Prints.{cut}
-use Rattle.test_report_run.specs.Run.{RunState, Step, after, after_file, cargo_fails, counts_tests, ended_at, ended_early, file_notes, heard, is_disagreement, learned, marked, tests_in, notes_at, open_suite, opened, place_of_number, reports_told, run_start, running_ends, running_over, settled_at, slow_at, started_again, step, stray_ends, stray_over, stray_suite_notes, stray_test, suite_at, suite_place, told, told_at, with_note, with_suite_at, without_tests}
+use Rattle.test_report_run.specs.FileEnd.{after_file, file_notes, reports_told}
+use Rattle.test_report_run.specs.Run.{RunState, Step, after, cargo_fails, counts_tests, ended_at, ended_early, heard, is_disagreement, learned, marked, tests_in, notes_at, open_suite, opened, place_of_number, run_start, running_ends, running_over, settled_at, slow_at, started_again, step, stray_ends, stray_over, stray_suite_notes, stray_test, suite_at, suite_place, told, told_at, with_note, with_suite_at, without_tests}
 use Rattle.test_report_run.specs.Running.{RunningView, is_same, place_of_end, running_at, with_slow}
 use Rattle.test_report_run.specs.Name.{before_dollar}
 use Rattle.test_report_run.specs.Suite.{FlakyView, OverView, SuiteState, cancelled_by, has_key, joined_by, named, outside_start, suite_start, with_line, with_start}

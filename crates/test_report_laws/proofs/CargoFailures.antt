@@ -21,7 +21,8 @@ use Rattle.test_report_laws.specs.Whole.{IsLineOf, all_notes, notes_of, run_afte
 use Rattle.test_report_run.specs.Events.{is_after_report, is_event}
 use Rattle.test_report_run.specs.Others.{after_failure}
 use Rattle.test_report_run.specs.Suite.{SuiteState}
-use Rattle.test_report_run.specs.Run.{RunState, Step, after, after_file, cargo_fails, disagrees, file_notes, held_told, is_cause, is_explained, notes_at, report_told, run_start, settled, settled_at, step, told, with_report}
+use Rattle.test_report_run.specs.FileEnd.{after_file, file_notes, held_told}
+use Rattle.test_report_run.specs.Run.{RunState, Step, after, cargo_fails, disagrees, is_cause, is_explained, notes_at, report_told, run_start, settled, settled_at, step, told, with_report}
 
 -- a command that has started is known up to the end of the file
 of-settled : (r : RunState) (e : EventView) → (ready r e).of_command ≡ r.of_command

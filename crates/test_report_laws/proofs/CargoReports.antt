@@ -12,7 +12,8 @@ use Rattle.test_report_run_notes.specs.Note.{CargoSays, CargoView, Disagrees, No
 use Rattle.test_report_laws.proofs.Sums.{sum-map, sum-none, sum-ones}
 use Rattle.test_report_run.specs.Events.{is_after_report, is_event}
 use Rattle.test_report_run.specs.Others.{after_failure, last_cause}
-use Rattle.test_report_run.specs.Run.{RunState, Step, at_end, cargo_fails, disagrees, held_reports, held_told, notes_at, report_told, reports_told, settled, settled_at, step, told, with_report}
+use Rattle.test_report_run.specs.FileEnd.{at_end, held_reports, held_told, reports_told}
+use Rattle.test_report_run.specs.Run.{RunState, Step, cargo_fails, disagrees, notes_at, report_told, settled, settled_at, step, told, with_report}
 
 -- the run with other failures of cargo that are not known yet, and another number of causes
 abbrev pub with_reports : RunState → Option CargoView → List CargoView → ℕ → RunState

@@ -13,7 +13,8 @@ use Rattle.test_report_laws.proofs.OverRuns.{up-to-line}
 use Rattle.test_report_laws.proofs.RunCauses.{weight}
 use Rattle.test_report_laws.proofs.Sums.{one-most}
 use Rattle.test_report_laws.specs.Whole.{all_notes, notes_of, run_after, run_after_files}
-use Rattle.test_report_run.specs.Run.{RunState, Step, after, after_file, command_notes, file_notes, held_reports, held_told, is_cause, is_new_cause, no_event_notes, notes_at, reports_told, run_start, settled, settled_at, step, told}
+use Rattle.test_report_run.specs.FileEnd.{after_file, command_notes, file_notes, held_reports, held_told, no_event_notes, reports_told}
+use Rattle.test_report_run.specs.Run.{RunState, Step, after, is_cause, is_new_cause, notes_at, run_start, settled, settled_at, step, told}
 
 -- a note that counts when it becomes known
 abbrev new : NoteView → ℕ

@@ -19,7 +19,8 @@ use Rattle.test_report_laws.specs.Run.{AreBelow, Crashed, CrashedTogether, Crash
 use Rattle.test_report_run.specs.Ended.{end_notes}
 use Rattle.test_report_run.specs.Others.{OthersView}
 use Rattle.test_report_run.specs.Over.{crash_again, crash_of, early_disagreements, early_notes, early_state, explained_of, failed_notes, flaky_note, flaky_notes, last_notes, number_notes}
-use Rattle.test_report_run.specs.Run.{RunState, Step, command_notes, counts_tests, ended_at, ended_early, file_end, file_notes, tests_in, no_event_notes, notes_at, open_suite, opened, reports_told, running_ends, running_over, settled_at, started_again, step, stray_ends, stray_over, stray_suite_notes, stray_test, suite_at, suite_place, told, with_suite_at, without_tests}
+use Rattle.test_report_run.specs.FileEnd.{command_notes, file_end, file_notes, no_event_notes, reports_told}
+use Rattle.test_report_run.specs.Run.{RunState, Step, counts_tests, ended_at, ended_early, tests_in, notes_at, open_suite, opened, running_ends, running_over, settled_at, started_again, step, stray_ends, stray_over, stray_suite_notes, stray_test, suite_at, suite_place, told, with_suite_at, without_tests}
 use Rattle.test_report_run.specs.Running.{RunningView, is_same, place_of_end, running_at}
 use Rattle.test_report_run.specs.Suite.{FlakyView, OverView, SuiteState, cancelled_by, named, outside_start, suite_name, with_line}
 

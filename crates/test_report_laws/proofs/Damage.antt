@@ -8,7 +8,8 @@ use Rattle.test_report_laws.proofs.Outcomes.{outcome-means}
 use Rattle.test_report_laws.proofs.OverRuns.{over-run}
 use Rattle.test_report_laws.proofs.RunCauses.{causes-of, weight}
 use Rattle.test_report_laws.specs.Run.{DamagedLineShows, IsClean, damaged_lines_of, is_damaged}
-use Rattle.test_report_run.specs.Run.{RunState, after, file_notes, is_cause, notes_at}
+use Rattle.test_report_run.specs.FileEnd.{file_notes}
+use Rattle.test_report_run.specs.Run.{RunState, after, is_cause, notes_at}
 use Rattle.test_report_laws.specs.Whole.{all_notes}
 
 abbrev damage : EventView → ℕ

@@ -8,7 +8,8 @@ use Rattle.test_report_laws.proofs.OverRuns.{over-run}
 use Rattle.test_report_laws.proofs.Sums.{one-most}
 use Rattle.test_report_laws.proofs.ToldFailures.{no-failure, one-failure, told}
 use Rattle.test_report_laws.specs.Run.{FailedLineShows, FailedLinesAreTold, IsClean, failed_in, failed_lines_of, fails_as_told, is_test, is_told, is_told_failure, says_failed}
-use Rattle.test_report_run.specs.Run.{RunState, file_notes, has_failed, notes_at}
+use Rattle.test_report_run.specs.FileEnd.{file_notes}
+use Rattle.test_report_run.specs.Run.{RunState, has_failed, notes_at}
 use Rattle.test_report_laws.specs.Whole.{all_notes}
 
 -- a failed test for each of them

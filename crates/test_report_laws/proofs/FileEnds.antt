@@ -8,7 +8,8 @@ use Rattle.test_report_events.specs.Event.{CommandView}
 use Rattle.test_report_run_notes.specs.Note.{CommandFails, DisagreementView, Disagrees, HasNoEvent, NoteView, ended_well, was_not_started}
 use Rattle.test_report_laws.proofs.CargoReports.{only-told, reports-none}
 use Rattle.test_report_laws.proofs.Sums.{sum-if-none}
-use Rattle.test_report_run.specs.Run.{RunState, Step, all_ended_early, command_fails, command_notes, file_end, file_notes, learned, no_event_notes, reports_told}
+use Rattle.test_report_run.specs.FileEnd.{all_ended_early, command_fails, command_notes, file_end, file_notes, no_event_notes, reports_told}
+use Rattle.test_report_run.specs.Run.{RunState, Step, learned}
 
 -- the run when its failures of cargo are known, what its suites make known then, and the run when all of this is counted
 abbrev pub reported_run : RunState → RunState

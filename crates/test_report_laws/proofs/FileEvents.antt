@@ -18,7 +18,8 @@ use Rattle.test_report_laws.proofs.RunCauses.{causes-of, weight}
 use Rattle.test_report_laws.specs.Run.{CommandEndShows, IsClean, NoEventShows, events_in}
 use Rattle.test_report_run.specs.Events.{is_event}
 use Rattle.test_report_laws.specs.Whole.{IsFileEndOf, all_notes, notes_of, run_after, run_after_file, run_after_files}
-use Rattle.test_report_run.specs.Run.{RunState, after, command_fails, file_notes, is_cause, reports_told, run_start, told}
+use Rattle.test_report_run.specs.FileEnd.{command_fails, file_notes, reports_told}
+use Rattle.test_report_run.specs.Run.{RunState, after, is_cause, run_start, told}
 
 -- lines that are no events of a harness
 none-told : (r : RunState) (e : EventView) → is_event e ≡ false → (told r e).run.has_event ≡ r.has_event

@@ -5,7 +5,8 @@ use Rattle.std.proofs.lemmas.List.Sums.{fold-append, sum_by-append}
 use Rattle.test_report_events.specs.Event.{EventView}
 use Rattle.test_report_run_notes.specs.Note.{NoteView}
 use Rattle.test_report_run.proofs.Lines.{notes-append}
-use Rattle.test_report_run.specs.Run.{RunState, after, file_notes, notes_at, run_start}
+use Rattle.test_report_run.specs.FileEnd.{file_notes}
+use Rattle.test_report_run.specs.Run.{RunState, after, notes_at, run_start}
 use Rattle.test_report_laws.specs.Whole.{IsFileEndOf, IsLineOf, all_notes, notes_of, notes_of_file, notes_of_files, run_after, run_after_file, run_after_files}
 
 -- a weight of notes

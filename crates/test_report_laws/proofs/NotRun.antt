@@ -20,7 +20,8 @@ use Rattle.test_report_run.specs.Ended.{after_end, end_notes}
 use Rattle.test_report_laws.specs.Run.{not_run_of}
 use Rattle.test_report_run.specs.Others.{OthersView}
 use Rattle.test_report_run.specs.Over.{crash_of, crashed_notes, early_disagreements, early_notes, early_state, explained_of, failed_note, failed_notes, flaky_note, flaky_notes, initial_of, last_disagreement, last_notes, last_state, lost, number_notes, rest_of, skipped_note}
-use Rattle.test_report_run.specs.Run.{RunState, Step, after, counts_tests, ended_at, ended_early, file_notes, tests_in, notes_at, open_suite, opened, place_of_number, running_ends, running_over, settled_at, slow_at, started_again, step, stray_ends, stray_over, stray_suite_notes, stray_test, suite_at, suite_place, told, with_suite_at, without_tests}
+use Rattle.test_report_run.specs.FileEnd.{file_notes}
+use Rattle.test_report_run.specs.Run.{RunState, Step, after, counts_tests, ended_at, ended_early, tests_in, notes_at, open_suite, opened, place_of_number, running_ends, running_over, settled_at, slow_at, started_again, step, stray_ends, stray_over, stray_suite_notes, stray_test, suite_at, suite_place, told, with_suite_at, without_tests}
 use Rattle.test_report_run.specs.Running.{RunningView, place_of_end, running_at}
 use Rattle.test_report_laws.specs.Status.{NotRunIsNamed, named_not_run}
 use Rattle.test_report_run.specs.Name.{given_by, name_of}

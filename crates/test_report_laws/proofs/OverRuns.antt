@@ -5,7 +5,8 @@ use Rattle.std.proofs.lemmas.List.{append-nil}
 use Rattle.std.proofs.lemmas.List.Sums.{sum_by-cons}
 use Rattle.test_report_events.specs.Event.{EventView}
 use Rattle.test_report_run_notes.specs.Note.{NoteView}
-use Rattle.test_report_run.specs.Run.{RunState, after, after_file, file_notes, notes_at, run_start}
+use Rattle.test_report_run.specs.FileEnd.{after_file, file_notes}
+use Rattle.test_report_run.specs.Run.{RunState, after, notes_at, run_start}
 use Rattle.test_report_laws.specs.Whole.{all_notes, notes_of, notes_of_file, notes_of_files, run_after, run_after_file, run_after_files}
 
 -- what holds within a file and between files, of a sum over the lines so far, what they made known, and the run

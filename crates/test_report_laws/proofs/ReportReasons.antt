@@ -33,7 +33,8 @@ use Rattle.test_report_forms.specs.declared.html.HtmlForm.{HtmlForm}
 use Rattle.test_report_forms.specs.declared.junit.JunitForm.{JunitForm}
 use Rattle.test_report_forms.specs.declared.markdown.MarkdownForm.{MarkdownForm}
 use Rattle.test_report_forms.specs.declared.options.Options.{Options}
-use Rattle.test_report_run.specs.Run.{end_of, has_failed}
+use Rattle.test_report_run.specs.FileEnd.{end_of}
+use Rattle.test_report_run.specs.Run.{has_failed}
 use Rattle.test_report_laws.specs.Lines.{Block, GithubNamesCauses, GithubSays, SaysReason, TextNamesCauses, TextSays, github_block, is_reason, notice, text_block, HasCause, list_block}
 use Rattle.test_report_laws.specs.Status as status
 use Rattle.test_report_laws.specs.Status.{RanNoTests, Succeeds}

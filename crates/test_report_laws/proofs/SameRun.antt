@@ -11,7 +11,8 @@ use Rattle.test_report_events.specs.Event.{EventView}
 use Rattle.test_report_run_notes.specs.Note.{Disagrees, FlakyEnds, IsNotRun, NoteView, SuiteIs, TestIs}
 use Rattle.test_report_engine.proofs.Lists.{zip-append}
 use Rattle.test_report_forms.specs.Entry.{EntryView, IsEntryOf}
-use Rattle.test_report_run.specs.Run.{RunState, after, after_file, end_of, file_notes, run_start}
+use Rattle.test_report_run.specs.FileEnd.{after_file, end_of, file_notes}
+use Rattle.test_report_run.specs.Run.{RunState, after, run_start}
 use Rattle.test_report_run.proofs.Lines.{notes-append}
 use Rattle.test_report_laws.specs.Whole as whole
 use Rattle.test_report_laws.specs.Report.{AreReordered, HasEvents, OneRun}

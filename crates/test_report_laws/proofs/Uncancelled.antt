@@ -25,7 +25,8 @@ use Rattle.test_report_forms.specs.Why.{WhyView}
 use Rattle.test_report_run.specs.Ended.{end_notes}
 use Rattle.test_report_run.specs.Others.{OthersView}
 use Rattle.test_report_run.specs.Over.{early_notes, explained_of, last_notes}
-use Rattle.test_report_run.specs.Run.{RunState, Step, after, after_file, counts_tests, disagrees, ended_at, ended_early, file_notes, notes_at, open_suite, opened, running_ends, running_over, settled_at, started_again, step, stray_ends, stray_over, stray_suite_notes, stray_test, suite_at, suite_place, tests_in, with_report, with_suite_at, without_tests}
+use Rattle.test_report_run.specs.FileEnd.{after_file, file_notes}
+use Rattle.test_report_run.specs.Run.{RunState, Step, after, counts_tests, disagrees, ended_at, ended_early, notes_at, open_suite, opened, running_ends, running_over, settled_at, started_again, step, stray_ends, stray_over, stray_suite_notes, stray_test, suite_at, suite_place, tests_in, with_report, with_suite_at, without_tests}
 use Rattle.test_report_run.specs.Run as run
 use Rattle.test_report_run.specs.Running.{RunningView, is_same, place_of_end, running_at}
 use Rattle.std.specs.List.{position, remove}

@@ -21,7 +21,8 @@ use Rattle.test_report_laws.specs.Run.{FailedVerdictShows, IsClean, IsSound, cra
 use Rattle.test_report_run.specs.Others.{OthersView}
 use Rattle.test_report_run.specs.Over.{early_notes, last_notes}
 use Rattle.test_report_run.specs.Running.{RunningView}
-use Rattle.test_report_run.specs.Run.{RunState, Step, after, after_file, ended_at, ended_early, file_notes, has_failed, heard, is_cause, learned, tests_in, notes_at, open_suite, opened, settled_at, started_again, step, stray_suite_notes, suite_at, with_suite_at, without_tests}
+use Rattle.test_report_run.specs.FileEnd.{after_file, file_notes}
+use Rattle.test_report_run.specs.Run.{RunState, Step, after, ended_at, ended_early, has_failed, heard, is_cause, learned, tests_in, notes_at, open_suite, opened, settled_at, started_again, step, stray_suite_notes, suite_at, with_suite_at, without_tests}
 use Rattle.test_report_run.specs.Said.{no_lines}
 use Rattle.test_report_run.specs.Suite.{SuiteState, cancelled_by, has_key, joined_by, outside_start, suite_start, with_line}
 use Rattle.test_report_laws.specs.Whole.{all_notes}

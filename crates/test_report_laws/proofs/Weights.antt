@@ -13,7 +13,8 @@ use Rattle.test_report_laws.proofs.FileEnds.{reported_run}
 use Rattle.test_report_laws.proofs.OverRuns.{up-to-line}
 use Rattle.test_report_run.specs.Ended.{after_end}
 use Rattle.test_report_run.specs.Over.{last_notes}
-use Rattle.test_report_run.specs.Run.{RunState, after, after_file, ended_at, heard, heard_at, tests_in, open_suite, opened, place_of_number, run_start, running_ends, running_over, slow_at, started_again, step, stray_ends, stray_over, stray_suite_notes, suite_at, suite_place, told, with_suite_at, without_tests}
+use Rattle.test_report_run.specs.FileEnd.{after_file}
+use Rattle.test_report_run.specs.Run.{RunState, after, ended_at, heard, heard_at, tests_in, open_suite, opened, place_of_number, run_start, running_ends, running_over, slow_at, started_again, step, stray_ends, stray_over, stray_suite_notes, suite_at, suite_place, told, with_suite_at, without_tests}
 use Rattle.test_report_run.specs.Running.{RunningView, is_same, place_of_end, running_at, with_slow}
 use Rattle.test_report_run.specs.Said.{no_lines}
 use Rattle.test_report_run.specs.Suite.{OverView, SuiteState, cancelled_by, has_key, joined_by, named, suite_start, with_line, with_start}

@@ -26,7 +26,8 @@ use Rattle.test_report_forms.specs.declared.files.FileTexts.{FileTexts}
 use Rattle.test_report_forms.specs.declared.options.Options.{Options}
 use Rattle.test_report_laws.specs.Run.{passed_in}
 use Rattle.template.specs.Tree.{TreeView}
-use Rattle.test_report_run.specs.Run.{RunState, end_of}
+use Rattle.test_report_run.specs.FileEnd.{end_of}
+use Rattle.test_report_run.specs.Run.{RunState}
 use Rattle.test_report_laws.specs.Status.{IsInOrder, RanNoTests, Succeeds}
 use Rattle.test_report_laws.specs.Whole.{all_notes, whole_end}
 use Rattle.test_report_engine.specs.Lines.{AreEventsOf, InputView}

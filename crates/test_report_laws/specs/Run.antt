@@ -14,7 +14,8 @@ use Rattle.test_report_run.specs.Events.{is_event}
 use Rattle.test_report_run.specs.Ended.{failure_of}
 use Rattle.test_report_run.specs.Others.{OthersView}
 use Rattle.test_report_run.specs.Over.{crash_again, early_notes, last_notes}
-use Rattle.test_report_run.specs.Run.{RunState, counts_tests, file_notes, has_failed, is_disagreement, notes_at, open_suite, run_start, told}
+use Rattle.test_report_run.specs.FileEnd.{file_notes}
+use Rattle.test_report_run.specs.Run.{RunState, counts_tests, has_failed, is_disagreement, notes_at, open_suite, run_start, told}
 use Rattle.test_report_run.specs.Running.{RunningView, ends_in_number, without_number}
 use Rattle.test_report_run.specs.Said.{numbers_of}
 use Rattle.test_report_run.specs.Suite.{SuiteState}

@@ -3,7 +3,8 @@ use Rattle.std.specs.Prelude.{◌≡◌, ◌++◌, ◌∷◌, [], ℕ, List}
 use Rattle.std.specs.List.{fold}
 use Rattle.test_report_events.specs.Event.{EventView}
 use Rattle.test_report_run_notes.specs.Note.{NoteView}
-use Rattle.test_report_run.specs.Run.{RunState, after, after_file, end_of, file_notes, run_start}
+use Rattle.test_report_run.specs.FileEnd.{after_file, end_of, file_notes}
+use Rattle.test_report_run.specs.Run.{RunState, after, run_start}
 pub use Rattle.test_report_run.specs.Run.{notes_of, run_after}
 use Rattle.test_report_run_notes.specs.declared.note.RunEnd.{RunEnd}
 

@@ -9,7 +9,8 @@ use Rattle.test_report_run_notes.specs.Note.{CargoSays, CargoView, Disagrees, No
 use Rattle.test_report_run.specs.Fits.{NoteFits, NotesFit}
 use Rattle.test_report_run.specs.Others.{last_cause}
 use Rattle.test_report_run.specs.Over.{early_notes}
-use Rattle.test_report_run.specs.Run.{RunState, Step, after, after_file, all_ended_early, command_notes, ended_early, file_end, file_notes, held_told, learned, marked, no_event_notes, report_told, reports_told, run_after, settled, settled_at, step, tests_in, told, told_at}
+use Rattle.test_report_run.specs.FileEnd.{after_file, all_ended_early, command_notes, file_end, file_notes, held_told, no_event_notes, reports_told}
+use Rattle.test_report_run.specs.Run.{RunState, Step, after, ended_early, learned, marked, report_told, run_after, settled, settled_at, step, tests_in, told, told_at}
 use Rattle.test_report_run.specs.RunFits.{EachFits, EventFits, LineFits, RunFits, SumsFit, ToldFits}
 use Rattle.test_report_run.specs.Suite.{SuiteState, cancelled_by, outside_start}
 use Rattle.test_report_run.proofs.FileEnds.{all-before, learned-more, outside-stays}

@@ -5,7 +5,8 @@ use Rattle.std.proofs.lemmas.List.Sums.{fold-append, sum_by-append}
 use Rattle.test_report_run_notes.specs.Note.{NoteView}
 use Rattle.test_report_run_notes.specs.declared.note.RunEnd.{RunEnd}
 use Rattle.test_report_run.specs.Over.{early_notes}
-use Rattle.test_report_run.specs.Run.{RunState, Step, all_ended_early, begun, command_notes, ended_early, file_end, file_notes, after_file, held_told, is_disagreement, is_new_cause, learned, no_event_notes, settled, step, tests_in, with_note, without_tests}
+use Rattle.test_report_run.specs.FileEnd.{all_ended_early, begun, command_notes, file_end, file_notes, after_file, held_told, no_event_notes}
+use Rattle.test_report_run.specs.Run.{RunState, Step, ended_early, is_disagreement, is_new_cause, learned, settled, step, tests_in, with_note, without_tests}
 use Rattle.test_report_run.specs.Suite.{SuiteState, cancelled_by, outside_start}
 use Rattle.test_report_run.specs.declared.suite.Suite.{Suite}
 use Rattle.test_report_run.proofs.Runs.{boxed_state}

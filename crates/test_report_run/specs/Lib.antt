@@ -1,5 +1,6 @@
 pub mod Ended
 pub mod Events
+pub mod FileEnd
 pub mod Fits
 pub mod Headings
 pub mod Keys

@@ -3,7 +3,8 @@ use Rattle.std.specs.Prelude.{◌+◌, ◌-◌, ◌^◌, ℕ, List, Bool, length
 use Rattle.std.specs.List.{fold}
 use Rattle.test_report_run_notes.specs.Note.{failed_of}
 use Rattle.test_report_run_notes.specs.declared.note.RunEnd.{RunEnd}
-use Rattle.test_report_run.specs.Run.{RunState, end_of, place_of_number, suite_at}
+use Rattle.test_report_run.specs.FileEnd.{end_of}
+use Rattle.test_report_run.specs.Run.{RunState, place_of_number, suite_at}
 use Rattle.test_report_run.specs.Running.{RunningView}
 use Rattle.test_report_run.specs.Suite.{SuiteState, suite_name}
 use Rattle.test_report_run.specs.declared.run.progress.FirstRunning.{FirstRunning}

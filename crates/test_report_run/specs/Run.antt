@@ -5,11 +5,11 @@ use Rattle.std.specs.List.{count_by, fold, position, remove, starts_with}
 use Rattle.std.specs.Option.{option_map_or, option_or, unwrap_or}
 use Rattle.std.specs.Str.{bytes_eq}
 use Rattle.run_events_results.specs.declared.results.CancelReason.{CancelReason}
-use Rattle.test_report_events.specs.Event.{BySignal, Cancels, CommandView, EventView, NotStarted, SuiteEndView, SuiteNames, TestEndView, SuiteStarts, SuiteEnds, TestStarts, TestEnds, TestIsSlow, OtherLine, HeadingLine, CargoFails, Prints, DamagedLine, CommandStarts, CommandOver, WithStatus}
+use Rattle.test_report_events.specs.Event.{Cancels, CommandView, EventView, SuiteEndView, SuiteNames, TestEndView, SuiteStarts, SuiteEnds, TestStarts, TestEnds, TestIsSlow, OtherLine, HeadingLine, CargoFails, Prints, DamagedLine, CommandStarts, CommandOver}
 use Rattle.test_report_events.specs.declared.event.CargoFailure.{CargoFailure}
 use Rattle.test_report_events.specs.declared.event.CargoFailure.TheVariants.{Build, Tests, Run}
 use Rattle.test_report_events.specs.declared.event.TestResult.TheVariants.{Ok, Failed, Ignored}
-use Rattle.test_report_run_notes.specs.Note.{CargoSays, CargoView, CommandFails, Disagrees, Fails, FlakyEnds, HasNoEvent, IsDamaged, IsNotRun, IsSkipped, NoteView, OutcomeView, Passes, StrayEnds, StraySuiteEnds, SuiteIs, TestIs, cargo_view, command_view, ended_well, is_new_disagreement, was_not_started}
+use Rattle.test_report_run_notes.specs.Note.{CargoSays, CargoView, Disagrees, Fails, FlakyEnds, IsDamaged, IsNotRun, IsSkipped, NoteView, OutcomeView, Passes, StrayEnds, StraySuiteEnds, SuiteIs, TestIs, cargo_view, command_view, is_new_disagreement}
 use Rattle.test_report_run_notes.specs.declared.note.RunEnd.{RunEnd}
 use Rattle.test_report_run.specs.Ended.{after_end, after_stray, end_notes, stray_notes}
 use Rattle.test_report_run.specs.Events.{is_after_report, is_event}
@@ -23,7 +23,7 @@ use Rattle.test_report_run.specs.Running.{RunningView, is_of, is_same, place_of_
 use Rattle.test_report_run.specs.Name.{before_dollar}
 use Rattle.test_report_run.specs.Suite.{OverView, SuiteState, cancelled_by, has_key, joined_by, outside_start, state_of, suite_start, with_line, with_start}
 use Rattle.test_report_run.specs.SuiteNames.{names_of}
-use Rattle.test_report_run.specs.Totals.{ending, no_suites, with_suite}
+use Rattle.test_report_run.specs.Totals.{no_suites, with_suite}
 use Rattle.test_report_run.specs.declared.run.TestRun.{TestRun}
 
 -- what is kept of a run
@@ -454,78 +454,3 @@ notes_of r (e ∷ events) = notes_at r e ++ notes_of (after r e) events
 -- the run after events
 abbrev pub run_after : RunState → List EventView → RunState
 run_after r events = fold after r events
-
--- a failure of cargo when the command has ended. It does not lack events if there was one, before the failure or after it
-abbrev pub at_end : Bool → CargoView → CargoView
-at_end has_event report = record report { lacks_events = report.lacks_events && not has_event }
-
--- the failures of cargo that wait for the end of the command
-abbrev pub held_reports : RunState → List CargoView
-held_reports r = map (at_end r.has_event) r.held
-
--- they become known, unless the command ended with status 0: then they were prints
-abbrev pub held_told : RunState → Step
-held_told r =
-    if ended_well r.command then step (record r { held = []; causes = r.causes - length r.held }) []
-    else step (record r { held = [] }) (map (λ report. Disagrees (CargoSays report)) (held_reports r))
-
--- a file disagrees if it has no event of a harness and nothing failed or disagreed in it, unless its command ended with status 0 or was not started
-abbrev pub no_event_notes : RunState → List NoteView
-no_event_notes r =
-    if not r.has_event && (not (nat_lt r.causes_at_file r.causes) && not (ended_well r.command || was_not_started r.command))
-    then Disagrees HasNoEvent ∷ [] else []
-
--- the open suites end early, and then the tests outside of a suite
-abbrev pub all_ended_early : RunState → Step
-all_ended_early r =
-    let suites = fold ended_early (step (record r { suites = [] }) []) r.suites in
-    ended_early (step (record (suites.run) { outside = outside_start }) suites.notes) r.outside
-
--- the failures of cargo that are not known yet become known, or were prints
-abbrev pub reports_told : RunState → Step
-reports_told r = let last = settled r false in let held = held_told last.run in step held.run (last.notes ++ held.notes)
-
--- the end of a file, without the note on how its command ended
-abbrev pub file_end : RunState → Step
-file_end r =
-    let reports = reports_told r in
-    let suites = all_ended_early reports.run in
-    step suites.run (reports.notes ++ (suites.notes ++ no_event_notes suites.run))
-
--- a command disagrees that could not be started, that ended by a signal, or that ended with a status above 0 if nothing says why
-abbrev pub command_fails : ℕ → CommandView → Bool
-command_fails causes (NotStarted error) = true
-command_fails causes (BySignal number) = true
-command_fails causes (WithStatus code) = not (code == 0) && causes == 0
-
--- what the end of the command says
-abbrev pub command_notes : RunState → List NoteView
-command_notes r = option_map_or (λ end. if command_fails r.causes end then Disagrees (CommandFails end) ∷ [] else []) r.command []
-
--- what the end of a file makes known
-abbrev pub file_notes : RunState → List NoteView
-file_notes r = let t = file_end r in t.notes ++ command_notes (learned t.run t.notes)
-
--- the run before the first line of a file
-abbrev pub begun : RunState → RunState
-begun r = record r {
-  headings = [];
-  heading = None;
-  has_event = false;
-  lacked_events = false;
-  others = no_others;
-  recent = [];
-  of_command = false;
-  command = None;
-  names = [];
-  causes_at_file = r.causes;
-  causes_at_cargo = r.causes;
-}
-
--- the run after the end of a file
-abbrev pub after_file : RunState → RunState
-after_file r = begun (learned (file_end r).run (file_notes r))
-
--- the sums and the outcome
-abbrev pub end_of : RunState → RunEnd
-end_of r = ending r.totals r.disagreements

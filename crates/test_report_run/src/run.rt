@@ -6,6 +6,7 @@ ghost use Rattle.test_report_events.specs.Event.{event_view};
 ghost use Rattle.test_report_run_notes.specs.Note.{disagreement_view, is_new_disagreement, note_view};
 ghost use Rattle.test_report_run.specs.Events.{is_after_report, is_event};
 ghost use Rattle.test_report_run.specs.Fits.{NotesFit, OnlyMemory};
+ghost use Rattle.test_report_run.specs.FileEnd as ends;
 ghost use Rattle.test_report_run.specs.Run as spec;
 ghost use Rattle.test_report_run.specs.Run.{run_state};
 ghost use Rattle.test_report_run.specs.RunFits.{EachFits, EventFits, RunFits, SumsFit, ToldFits};
@@ -174,9 +175,9 @@ impl TestRun {
     /// other error is `OutOfMemory`. After an error the run must not be used.
     pub fn end_file(&mut self, alloc: Global) -> Result<Vec<Note>, RunError>
         ensures tells { IfOk result (λ notes. map note_view notes.items
-            ≡ spec.file_notes (run_state self.old)) }
-        ensures takes { OnOk result (run_state self.new ≡ spec.after_file (run_state self.old)) }
-        ensures room { RunFits (spec.after_file (run_state self.old)) → OnlyMemory result }
+            ≡ ends.file_notes (run_state self.old)) }
+        ensures takes { OnOk result (run_state self.new ≡ ends.after_file (run_state self.old)) }
+        ensures room { RunFits (ends.after_file (run_state self.old)) → OnlyMemory result }
     {
         let mut notes = Vec::new(alloc);
         self.settle(false, &mut notes)?;
@@ -192,10 +193,10 @@ impl TestRun {
     /// Ends the open suites early, and then the tests outside of a suite. Fails only if memory runs out, or a number of a
     /// suite does not fit.
     fn end_suites(&mut self, alloc: Global, notes: &mut Vec<Note>) -> Result<(), RunError>
-        ensures takes { OnOk result (run_state self.new ≡ (spec.all_ended_early (run_state self.old)).run) }
+        ensures takes { OnOk result (run_state self.new ≡ (ends.all_ended_early (run_state self.old)).run) }
         ensures tells { OnOk result (map note_view notes.new.items ≡ map note_view notes.old.items
-            ++ (spec.all_ended_early (run_state self.old)).notes) }
-        ensures room { NotesFit (spec.all_ended_early (run_state self.old)).notes → OnlyMemory result }
+            ++ (ends.all_ended_early (run_state self.old)).notes) }
+        ensures room { NotesFit (ends.all_ended_early (run_state self.old)).notes → OnlyMemory result }
     {
         for suite in self.suites.take_all(alloc) {
             self.end_early(alloc, Box::into_inner(suite), notes)?;
@@ -206,7 +207,7 @@ impl TestRun {
 
     /// Forgets what is kept of the lines of a file, before the next one.
     fn begin_file(&mut self, alloc: Global)
-        ensures { run_state self.new ≡ spec.begun (run_state self.old) }
+        ensures { run_state self.new ≡ ends.begun (run_state self.old) }
     {
         self.headings = Headings::new(alloc);
         self.heading = None;
@@ -223,7 +224,7 @@ impl TestRun {
 
     /// Returns the sums and the outcome of the whole run. Call it after `end_file` of the last file.
     pub fn end(&self) -> RunEnd
-        ensures { result ≡ spec.end_of (run_state self.now) }
+        ensures { result ≡ ends.end_of (run_state self.now) }
     {
         self.totals.end(self.disagreements)
     }
@@ -307,7 +308,7 @@ impl TestRun {
     /// unless its command ended with status 0 or was not started.
     fn push_no_event(&self, notes: &mut Vec<Note>) -> Result<(), AllocError>
         ensures { OnOk result (map note_view notes.new.items ≡ map note_view notes.old.items
-            ++ spec.no_event_notes (run_state self.now)) }
+            ++ ends.no_event_notes (run_state self.now)) }
     {
         let explained = self.causes > self.causes_at_file || self.command_says_more();
         if !self.has_event && !explained {

@@ -6,7 +6,8 @@ use Rattle.std.specs.List.{AllZip, fold}
 use Rattle.test_report_events.specs.Event.{EventView}
 use Rattle.test_report_events.specs.Line.{LineSays}
 use Rattle.test_report_run_notes.specs.declared.note.RunEnd.{RunEnd}
-use Rattle.test_report_run.specs.Run.{RunState, after_file, end_of, run_after, run_start}
+use Rattle.test_report_run.specs.FileEnd.{after_file, end_of}
+use Rattle.test_report_run.specs.Run.{RunState, run_after, run_start}
 
 -- these lines have events, and this is the run after these events
 pub record IsRunOf (lines : List (List ℕ)) (run : RunState) : Type 0 where

@@ -4,6 +4,7 @@ ghost use Rattle.std.specs.Prelude.{◌≡◌, ◌++◌, ◌||◌, IfOk, OnOk, m
 ghost use Rattle.test_report_events.specs.Event.{Cancels, CommandOver, CommandStarts};
 ghost use Rattle.test_report_run_notes.specs.Note.{CargoSays, Disagrees, cargo_view, command_view, ended_well, note_view, was_not_started};
 ghost use Rattle.test_report_run.specs.Fits.{OnlyMemory};
+ghost use Rattle.test_report_run.specs.FileEnd as ends;
 ghost use Rattle.test_report_run.specs.Run as spec;
 ghost use Rattle.test_report_run.specs.Run.{run_state};
 ghost use Rattle.test_report_run.specs.RunFits.{SumsFit};
@@ -52,9 +53,9 @@ impl TestRun {
         alloc: Global,
         notes: &mut Vec<Note>,
     ) -> Result<(), AllocError>
-        ensures takes { OnOk result (run_state self.new ≡ (spec.held_told (run_state self.old)).run) }
+        ensures takes { OnOk result (run_state self.new ≡ (ends.held_told (run_state self.old)).run) }
         ensures tells { OnOk result (map note_view notes.new.items ≡ map note_view notes.old.items
-            ++ (spec.held_told (run_state self.old)).notes) }
+            ++ (ends.held_told (run_state self.old)).notes) }
     {
         let held = std::mem::replace(&mut self.held, Vec::new(alloc));
         if self.command_ended_well() {
@@ -88,10 +89,10 @@ impl TestRun {
     /// a sum does not fit.
     pub(crate) fn end_command(&mut self, notes: &mut Vec<Note>) -> Result<(), RunError>
         ensures takes { OnOk result (record (run_state self.new) { command = (run_state self.old).command }
-            ≡ spec.learned (run_state self.old) (spec.command_notes (run_state self.old))) }
+            ≡ spec.learned (run_state self.old) (ends.command_notes (run_state self.old))) }
         ensures tells { OnOk result (map note_view notes.new.items ≡ map note_view notes.old.items
-            ++ spec.command_notes (run_state self.old)) }
-        ensures room { SumsFit (spec.learned (run_state self.old) (spec.command_notes (run_state self.old)))
+            ++ ends.command_notes (run_state self.old)) }
+        ensures room { SumsFit (spec.learned (run_state self.old) (ends.command_notes (run_state self.old)))
             → OnlyMemory result }
     {
         let Some(end) = self.command.take() else {
@@ -113,7 +114,7 @@ fn push_reports(
     notes: &mut Vec<Note>,
 ) -> Result<(), AllocError>
     ensures { OnOk result (map note_view notes.new.items ≡ map note_view notes.old.items
-        ++ map (λ report. Disagrees (CargoSays report)) (map (spec.at_end has_event) (map cargo_view reports.items))) }
+        ++ map (λ report. Disagrees (CargoSays report)) (map (ends.at_end has_event) (map cargo_view reports.items))) }
 {
     for mut report in reports {
         report.lacks_events = report.lacks_events && !has_event;
@@ -125,7 +126,7 @@ fn push_reports(
 /// Returns true if a command could not be started, ended by a signal, or ended with a status above 0 although nothing
 /// failed or disagreed. `causes` is the number of failed tests and disagreements.
 fn command_fails(causes: usize, end: &CommandEnd) -> bool
-    ensures { result ≡ spec.command_fails causes (command_view end.now) }
+    ensures { result ≡ ends.command_fails causes (command_view end.now) }
 {
     match end {
         CommandEnd::NotStarted { .. } | CommandEnd::Signal { .. } => true,

@@ -4,7 +4,8 @@ ghost use Rattle.std.specs.Prelude.{◌≡◌, IfOk, List, map};
 ghost use Rattle.std.specs.List.{AllZip, fold};
 ghost use Rattle.test_report_events.specs.Event.{EventView};
 ghost use Rattle.test_report_events.specs.Line.{LineSays};
-ghost use Rattle.test_report_run.specs.Run.{after_file, end_of, run_after, run_start};
+ghost use Rattle.test_report_run.specs.FileEnd.{after_file, end_of};
+ghost use Rattle.test_report_run.specs.Run.{run_after, run_start};
 
 use std::alloc::Global;
 use test_report_events::line::Line;

@@ -10,9 +10,8 @@ use crate::test_report_forms::failed_test::FailedTest;
 use crate::test_report_forms::markdown_template::FAILED;
 use crate::test_report_forms::model::{ReportModel, no_tests_ran};
 use crate::test_report_forms::summary::outcome_text;
-use crate::test_report_forms::values::{
-    failed_values, one_text, one_word, problem_items, run_values,
-};
+use crate::test_report_forms::test_values::failed_values;
+use crate::test_report_forms::values::{one_text, one_word, problem_items, run_values};
 use crate::test_report_run_notes::note::RunEnd;
 use deodarsieve::RunOutcome;
 

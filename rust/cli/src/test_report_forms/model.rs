@@ -4,7 +4,7 @@
 use crate::test_report_forms::cause::{Problem, cause_of};
 use crate::test_report_forms::entry::Entry;
 use crate::test_report_forms::failed_test::{FailedTest, shown_failure};
-use crate::test_report_forms::flaky_test::FlakyTest;
+use crate::test_report_forms::flaky_row::FlakyRow;
 use crate::test_report_forms::junit_case::shared_text;
 use crate::test_report_forms::numbers::Numbers;
 use crate::test_report_forms::options::Options;
@@ -74,7 +74,7 @@ pub struct ReportModel {
     pub(crate) skipped: Vec<SkippedTest>,
 
     /// The tests that passed after several attempts.
-    pub(crate) flaky: Vec<FlakyTest>,
+    pub(crate) flaky: Vec<FlakyRow>,
 }
 
 impl ReportModel {
@@ -167,9 +167,9 @@ fn keep_skipped(skipped: &mut Vec<SkippedTest>, entry: &Entry<'_>) {
 }
 
 /// Keeps the test of an entry, if it passed after several attempts.
-fn keep_flaky(flaky: &mut Vec<FlakyTest>, entry: &Entry<'_>) {
+fn keep_flaky(flaky: &mut Vec<FlakyRow>, entry: &Entry<'_>) {
     if let Entry::Passed(test) = entry
-        && let Some(shown) = FlakyTest::of(test)
+        && let Some(shown) = FlakyRow::of(test)
     {
         flaky.push(shown);
     }

@@ -4,7 +4,7 @@
 /// The page, with places for the values of `report_values`. It is one element of HTML that is also well-formed XML, and
 /// it loads nothing from elsewhere: the policy in its head allows only its own style sheet. A value can be between
 /// tags and in a quoted attribute, and not in the style sheet. The bars are hidden from screen readers, which read the
-/// numbers in words.
+/// numbers in words. If a server blocks the style sheet, a bar is its numbers, so there is a space after each.
 pub(crate) const PAGE: &str = r#"<html lang="en">
 <head>
 <meta charset="utf-8"/>
@@ -78,7 +78,7 @@ td .bar { margin-top: 0.45rem; }
 <header>
 <h1>Test report: <span class="word {{outcome}}">{{outcome}}</span></h1>
 <p class="summary">{{finished}} tests run: {{passed}} passed ({{flaky}} flaky{{#slow}}, {{count}} slow{{/slow}}), {{failed}} failed ({{timed_out}} timed out, {{crashed}} crashed), {{skipped}} skipped, {{not_run}} not run{{#time}}, in {{seconds}}s{{/time}}</p>
-{{#bar}}<div class="bar" aria-hidden="true">{{#part}}<span class="{{class}}" style="flex-grow: {{number}}">{{number}}</span>{{/part}}</div>
+{{#bar}}<div class="bar" aria-hidden="true">{{#part}}<span class="{{class}}" style="flex-grow: {{number}}">{{number}}</span> {{/part}}</div>
 {{/bar}}</header>
 <main>
 {{#problems}}<section>
@@ -112,7 +112,7 @@ td .bar { margin-top: 0.45rem; }
 <table>
 <thead><tr><th scope="col">Suite</th><th scope="col">Tests</th><th scope="col" class="time">Time</th></tr></thead>
 <tbody>
-{{#suite}}<tr><th scope="row">{{name}}</th><td>{{#bar}}<div class="bar" aria-hidden="true">{{#part}}<span class="{{class}}" style="flex-grow: {{number}}">{{number}}</span>{{/part}}</div>{{/bar}}<div class="words">{{words}}</div></td><td class="time">{{#time}}{{seconds}}s{{/time}}{{^time}}–{{/time}}</td></tr>
+{{#suite}}<tr><th scope="row">{{name}}</th><td>{{#bar}}<div class="bar" aria-hidden="true">{{#part}}<span class="{{class}}" style="flex-grow: {{number}}">{{number}}</span> {{/part}}</div>{{/bar}}<div class="words">{{words}}</div></td><td class="time">{{#time}}{{seconds}}s{{/time}}{{^time}}–{{/time}}</td></tr>
 {{/suite}}</tbody>
 </table>
 </section>

@@ -23,15 +23,14 @@
 
 use crate::template::{Value, push_item, push_section, push_text};
 use crate::test_report_forms::cause::Problem;
-use crate::test_report_forms::failed_test::FailedTest;
-use crate::test_report_forms::flaky_test::FlakyTest;
+use crate::test_report_forms::flaky_row::FlakyRow;
 use crate::test_report_forms::model::{ReportModel, SuiteRow, no_tests_ran};
 use crate::test_report_forms::numbers::Numbers;
 use crate::test_report_forms::shown::seconds_text;
 use crate::test_report_forms::skipped_test::SkippedTest;
-use crate::test_report_forms::slowest::{SlowTest, Slowest};
+use crate::test_report_forms::slowest::Slowest;
 use crate::test_report_forms::summary::outcome_text;
-use crate::test_report_forms::whole_output::WholeOutput;
+use crate::test_report_forms::test_values::{failed_items, flaky_items, skip_items, slow_items};
 use crate::test_report_run_notes::note::{RunEnd, failed_count};
 use deodarsieve::RunOutcome;
 
@@ -66,7 +65,7 @@ fn push_other_tests(
     values: &mut Vec<Value>,
     slowest: Slowest,
     skipped: Vec<SkippedTest>,
-    flaky: Vec<FlakyTest>,
+    flaky: Vec<FlakyRow>,
 ) {
     push_section(values, "slowest", slow_items(slowest));
     push_section(values, "skips", skip_items(skipped));
@@ -98,12 +97,12 @@ pub(crate) fn push_option(
 }
 
 /// Returns true if a text has an `@`.
-fn has_at(text: &[u8]) -> bool {
+pub(crate) fn has_at(text: &[u8]) -> bool {
     text.contains(&b'@')
 }
 
 /// Adds an item without values, if a text has an `@`.
-fn push_code(values: &mut Vec<Value>, list: &'static str, is_code: bool) {
+pub(crate) fn push_code(values: &mut Vec<Value>, list: &'static str, is_code: bool) {
     if is_code {
         push_item(values, list, Vec::new());
     }
@@ -200,82 +199,6 @@ pub(crate) fn problem_items(problems: Vec<Problem>, outcome: RunOutcome) -> Vec<
     items
 }
 
-/// Returns the number of attempts of a test, if there were several, and its time, if it is known.
-fn note(attempts: usize, time: Option<u64>) -> Vec<Value> {
-    let mut values = Vec::new();
-    if attempts > 1 {
-        let count = one_text("count", format!("{attempts}"));
-        push_item(&mut values, "attempts", count);
-    }
-    push_time(&mut values, time);
-    values
-}
-
-/// Returns the values of the suite of a failed test.
-fn own_suite_values(name: String) -> Vec<Value> {
-    let name_has_at = has_at(name.as_bytes());
-    let mut values = one_text("name", name);
-    push_code(&mut values, "name_code", name_has_at);
-    values
-}
-
-/// Adds the suite of a failed test, if it has one.
-fn push_suite(values: &mut Vec<Value>, suite: Option<String>) {
-    if let Some(name) = suite {
-        push_item(values, "suite", own_suite_values(name))
-    }
-}
-
-/// Returns the values of the whole output of a failed test.
-fn output_values(output: WholeOutput) -> Vec<Value> {
-    let WholeOutput { lines, text } = output;
-    let mut values = one_text("lines", format!("{lines}"));
-    push_text(&mut values, "text", text);
-    values
-}
-
-/// Adds the whole output of a failed test, if it is shown.
-fn push_output(values: &mut Vec<Value>, output: Option<WholeOutput>) {
-    if let Some(output) = output {
-        push_item(values, "output", output_values(output))
-    }
-}
-
-/// Returns the values of a failed test.
-pub(crate) fn failed_values(test: FailedTest) -> Vec<Value> {
-    let FailedTest {
-        suite,
-        name,
-        status,
-        attempts,
-        time,
-        short,
-        why,
-        output,
-    } = test;
-    let name_has_at = has_at(name.as_bytes());
-    let short_has_at = has_at(short.as_bytes());
-    let mut values = one_word("status", status);
-    push_suite(&mut values, suite);
-    push_text(&mut values, "name", name);
-    push_section(&mut values, "note", note(attempts, time));
-    push_text(&mut values, "short", short);
-    push_text(&mut values, "why", why);
-    push_code(&mut values, "name_code", name_has_at);
-    push_code(&mut values, "short_code", short_has_at);
-    push_output(&mut values, output);
-    values
-}
-
-/// Returns the failed tests.
-fn failed_items(tests: Vec<FailedTest>) -> Vec<Value> {
-    let mut items = Vec::new();
-    for test in tests {
-        push_item(&mut items, "failed", failed_values(test));
-    }
-    items
-}
-
 /// Returns the values of a suite.
 fn suite_values(suite: SuiteRow) -> Vec<Value> {
     let SuiteRow {
@@ -295,65 +218,6 @@ fn suite_items(suites: Vec<SuiteRow>) -> Vec<Value> {
     let mut items = Vec::new();
     for suite in suites {
         push_item(&mut items, "suite", suite_values(suite));
-    }
-    items
-}
-
-/// Returns the values of a slow test. `longest` is the time of the slowest one, in microseconds.
-fn slow_values(test: SlowTest, longest: u64) -> Vec<Value> {
-    let SlowTest { time, line } = test;
-    let share = u128::from(time) * 100 / u128::from(longest.max(1));
-    let mut values = one_text("name", line);
-    push_text(&mut values, "share", format!("{share}"));
-    push_text(&mut values, "seconds", seconds_text(time));
-    values
-}
-
-/// Returns the slowest tests.
-fn slow_items(slowest: Slowest) -> Vec<Value> {
-    let longest = slowest.longest();
-    let mut items = Vec::new();
-    for test in slowest.tests.into_values() {
-        push_item(&mut items, "slow", slow_values(test, longest));
-    }
-    items
-}
-
-/// Returns the values of a skipped test that has a reason.
-fn skip_values(test: SkippedTest) -> Vec<Value> {
-    let SkippedTest { name, reason } = test;
-    let mut values = one_text("name", name);
-    push_text(&mut values, "reason", reason);
-    values
-}
-
-/// Returns the skipped tests that have a reason.
-fn skip_items(tests: Vec<SkippedTest>) -> Vec<Value> {
-    let mut items = Vec::new();
-    for test in tests {
-        push_item(&mut items, "skip", skip_values(test));
-    }
-    items
-}
-
-/// Returns the values of a test that passed after several attempts.
-fn flaky_values(test: FlakyTest) -> Vec<Value> {
-    let FlakyTest {
-        name,
-        attempts,
-        time,
-    } = test;
-    let mut values = one_text("name", name);
-    push_text(&mut values, "attempts", format!("{attempts}"));
-    push_time(&mut values, time);
-    values
-}
-
-/// Returns the tests that passed after several attempts.
-fn flaky_items(tests: Vec<FlakyTest>) -> Vec<Value> {
-    let mut items = Vec::new();
-    for test in tests {
-        push_item(&mut items, "test", flaky_values(test));
     }
     items
 }

@@ -1,7 +1,8 @@
 use Rattle.std.proofs.Common.{◌≡◌, Some, map, option_map, subst, sym}
 use Rattle.std.proofs.lemmas.Result.{IfOk-weaker, on_ok_weaker}
 use Rattle.test_report_run_notes.specs.Note.{command_view, note_view}
-use Rattle.test_report_run.specs.Run.{file_notes, run_state}
+use Rattle.test_report_run.specs.FileEnd.{file_notes}
+use Rattle.test_report_run.specs.Run.{run_state}
 use Rattle.test_report_events.specs.Event.{CommandView}
 use Rattle.test_report_engine.specs.Fits.{InputEndFits}
 use Rattle.test_report_engine.specs.Lines.{events_after}

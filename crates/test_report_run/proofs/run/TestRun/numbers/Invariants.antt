@@ -2,7 +2,8 @@
 use Rattle.std.proofs.Common.{◌≡◌, map, take}
 use Rattle.std.specs.List.{fold}
 use Rattle.test_report_run.specs.Progress.{numbers_over, with_open}
-use Rattle.test_report_run.specs.Run.{end_of, run_state}
+use Rattle.test_report_run.specs.FileEnd.{end_of}
+use Rattle.test_report_run.specs.Run.{run_state}
 use Rattle.test_report_run.proofs.Runs.{boxed_state}
 use Rattle.test_report_run.proofs.run.TestRun.numbers.Given as goal
 

@@ -1,7 +1,7 @@
 -- Where failures of cargo are appended.
 use Rattle.std.proofs.Common.{◌≡◌, ◌++◌, map}
 use Rattle.test_report_run_notes.specs.Note.{CargoSays, Disagrees, cargo_view, note_view}
-use Rattle.test_report_run.specs.Run.{at_end}
+use Rattle.test_report_run.specs.FileEnd.{at_end}
 use Rattle.test_report_run.proofs.run.command.push_reports.Given as goal
 
 abbrev pub invariant-loop-report : goal.invariant-loop-report
