@@ -226,6 +226,21 @@ def several_files():
         yield Row(f"files {paths}", ["--format", "names", *paths], OTHER_RED, 1, wanted, files=files)
     numbers = Parts(["\n     Summary 2 tests run: 1 passed (0 flaky), 1 failed "])
     yield Row("the numbers of two files", ["red.jsonl", "-"], GREEN, 1, numbers, files=files)
+    # A file without events has its name in the report, if it is not the only one.
+    files = {"red.jsonl": RED, "print.txt": "a print\n", "other\tprint.txt": "a print\n"}
+    for paths, named in [
+        (["print.txt"], ["the input"]),
+        (["-"], ["the input"]),
+        (["print.txt", "red.jsonl"], ["print.txt"]),
+        (["red.jsonl", "print.txt"], ["print.txt"]),
+        (["print.txt", "red.jsonl", "other\tprint.txt"], ["print.txt", r"other\u{9}print.txt"]),
+        (["print.txt", "-", "./print.txt"], ["print.txt", "standard input", "./print.txt"]),
+    ]:
+        lines = [f"no line of {name} is of a test run\n" for name in named]
+        others = Parts(["a print\n"] if "-" in paths else [], [] if "-" in paths else ["a print"])
+        yield Row(f"files without events {paths}", paths, "a print\n", 1, Parts(lines), others, files=files)
+        lines = [f"::error::no line of {name} is of a test run\n" for name in named]
+        yield Row(f"github of files without events {paths}", ["--format", "github", *paths], "a print\n", 1, Parts(lines), others, files=files)
 
 
 def limits():

@@ -1,5 +1,5 @@
 -- The counters of a list in parts.
-use Rattle.std.proofs.Common.{◌≡◌, ◌+◌, List, ◌++◌, length, Bool, ap, ◌∙◌, arith, rules, length-append}
+use Rattle.std.proofs.Common.{◌≡◌, ◌+◌, List, ◌++◌, length, Bool, ap, ◌∙◌, arith, length-append}
 use Rattle.std.specs.Prelude.{Option}
 use Rattle.std.specs.List.{filter_map}
 use Rattle.std.proofs.lemmas.List.Elements.{filter_map-append}

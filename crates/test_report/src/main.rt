@@ -19,7 +19,9 @@ use crate::failure::{BAD_ARGUMENT, FAILED, Failure};
 use crate::files::{append, replace};
 use crate::others::Others;
 use crate::output::Output;
-use crate::output_files::{STANDARD_INPUT, Streams, conflict_of, inputs_of, remove_old_files};
+use crate::output_files::{
+    STANDARD_INPUT, Streams, conflict_of, file_names, inputs_of, remove_old_files,
+};
 use crate::progress::ProgressLine;
 use clap::ArgMatches;
 use program_io::device::Source;
@@ -208,7 +210,8 @@ fn report_in<'a, R: Files + AllocGlobal + Input + Print, F: Form + Drop>(
     form: F,
 ) -> Result<u8, Failure<'a>> {
     let files = file_forms(rt.alloc(), matches, settings.options)?;
-    let report = Report::with_files(rt.alloc(), form, files, settings.slow);
+    let names = file_names(rt.alloc(), matches)?;
+    let report = Report::with_file_names(rt.alloc(), form, files, settings.slow, names);
     let mut output = Output::new(io::writer(rt), line);
     let written = report_to(rt, matches, report, &mut output, &mut others);
     output.hide_progress();

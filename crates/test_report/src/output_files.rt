@@ -6,6 +6,7 @@ use crate::files::remove_old;
 use crate::same_file::FileId;
 use clap::ArgMatches;
 use std::alloc::{AllocError, Global};
+use std::collections::VecDeque;
 use std::fmt;
 use std::rt::Files;
 
@@ -117,6 +118,26 @@ pub(crate) fn inputs_of<'a>(
         inputs.push(STANDARD_INPUT)?;
     }
     Ok(inputs)
+}
+
+/// Returns the names of the files of the run, as the report shows them, if there are several.
+pub(crate) fn file_names(
+    alloc: Global,
+    matches: &ArgMatches<'_>,
+) -> Result<VecDeque<String>, AllocError> {
+    let inputs = inputs_of(alloc, matches)?;
+    let mut names = VecDeque::new(alloc);
+    if inputs.len() > 1 {
+        for path in inputs {
+            let name = if path == STANDARD_INPUT {
+                "standard input"
+            } else {
+                path
+            };
+            names.push_back(String::from_str(alloc, name)?)?;
+        }
+    }
+    Ok(names)
 }
 
 /// Returns a file of the run. Returns `None` for a terminal.

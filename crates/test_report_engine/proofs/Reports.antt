@@ -16,7 +16,7 @@ use Rattle.test_report_forms.specs.Laws.{OneEntry}
 use Rattle.test_report_forms.specs.declared.files.FileForms.{FileForms}
 use Rattle.test_report_forms.specs.declared.files.FileTexts.{FileTexts}
 use Rattle.test_report_run.specs.FileEnd.{end_of}
-use Rattle.test_report_run.specs.Run.{RunState, after, run_start, run_state}
+use Rattle.test_report_run.specs.Run.{RunSettings, RunState, after, run_start, run_state}
 use Rattle.test_report_run.specs.declared.run.TestRun.{TestRun}
 use Rattle.test_report_engine.specs.Lines.{AreEventsOf, InputView, events_after, file, output}
 use Rattle.test_report_engine.specs.Reading.{AnyRestFits, AppendsLinesStart, BreaksOff, BreaksOffEnd, FilesHaveRead, Finishes, HasRead, ReadsAnyStart, ReadsInput, ReadsOneMore, ReadsPiece, ReadsSome, ReadsStart, RestFits, StartsCommand, WritesNotes, piece_size}
@@ -46,20 +46,21 @@ inputs-notes r (x ∷ es) e =
     ∙ sym (append_assoc (notes_of_input r x) (notes_of_inputs (run_after_input r x) es) (notes_of_input (run_after_inputs (run_after_input r x) es) e))
 
 -- the entries of inputs and of one more
-pub entries-more : (slow : ℕ) (inputs : List InputView) (input : InputView) (entries more : List (List EntryView)) (r s : RunState)
-    (events : List (List EventView)) → AreEntriesOf slow inputs entries r → AreEventsOf input events
+pub entries-more : (settings : RunSettings) (inputs : List InputView) (input : InputView) (entries more : List (List EntryView)) (r s : RunState)
+    (events : List (List EventView)) → AreEntriesOf settings inputs entries r → AreEventsOf input events
     → AllZip (AllZip IsEntryOf) (notes_of_input r events) more → s ≡ run_after_input r events
-    → AreEntriesOf slow (inputs ++ input ∷ []) (entries ++ more) s
-entries-more slow inputs input entries more r s events are say zip run_is =
-    let notes : notes_of_inputs (run_start slow) are.events ++ notes_of_input r events ≡ notes_of_inputs (run_start slow) (are.events ++ events ∷ []) =
-    ap (λ x. notes_of_inputs (run_start slow) are.events ++ notes_of_input x events) are.run_is ∙ sym (inputs-notes (run_start slow) are.events events) in
+    → AreEntriesOf settings (inputs ++ input ∷ []) (entries ++ more) s
+entries-more settings inputs input entries more r s events are say zip run_is =
+    let notes : notes_of_inputs (run_start settings) are.events ++ notes_of_input r events ≡ notes_of_inputs (run_start settings) (are.events ++ events ∷ []) =
+    ap (λ x. notes_of_inputs (run_start settings) are.events ++ notes_of_input x events) are.run_is
+    ∙ sym (inputs-notes (run_start settings) are.events events) in
     record {
       events = are.events ++ events ∷ [];
       say = zip-append AreEventsOf inputs (input ∷ []) are.events (events ∷ []) are.say (say, tt);
       are =
           subst (λ ns. AllZip (AllZip IsEntryOf) ns (entries ++ more)) notes
-          (zip-append (AllZip IsEntryOf) (notes_of_inputs (run_start slow) are.events) (notes_of_input r events) entries more are.are zip);
-      run_is = run_is ∙ ap (λ x. run_after_input x events) are.run_is ∙ sym (inputs-run (run_start slow) are.events events);
+          (zip-append (AllZip IsEntryOf) (notes_of_inputs (run_start settings) are.events) (notes_of_input r events) entries more are.are zip);
+      run_is = run_is ∙ ap (λ x. run_after_input x events) are.run_is ∙ sym (inputs-run (run_start settings) are.events events);
     }
 
 -- the entries of inputs and of one more, where those of the inputs are known
@@ -76,27 +77,27 @@ module _ (one-reading-of-line : OneReadingOfLine) (one_entry : OneEntry) where
   one-inputs inputs a b p q = zip-one AreEventsOf (one-input one-reading-of-line) inputs a b p q
 
   -- inputs have at most one list of entries, and one run after them
-  pub one-entries : (slow : ℕ) (inputs : List InputView) (a b : List (List EntryView)) (r s : RunState) → AreEntriesOf slow inputs a r
-      → AreEntriesOf slow inputs b s → (a ≡ b) × (r ≡ s)
-  one-entries slow inputs a b r s p q =
+  pub one-entries : (settings : RunSettings) (inputs : List InputView) (a b : List (List EntryView)) (r s : RunState) → AreEntriesOf settings inputs a r
+      → AreEntriesOf settings inputs b s → (a ≡ b) × (r ≡ s)
+  one-entries settings inputs a b r s p q =
       let same : p.events ≡ q.events = one-inputs inputs p.events q.events p.say q.say in (
-        one-lists one_entry (notes_of_inputs (run_start slow) p.events) a b p.are
-            (subst (λ es. AllZip (AllZip IsEntryOf) (notes_of_inputs (run_start slow) es) b) (sym same) q.are),
-        p.run_is ∙ ap (run_after_inputs (run_start slow)) same ∙ sym q.run_is,
+        one-lists one_entry (notes_of_inputs (run_start settings) p.events) a b p.are
+            (subst (λ es. AllZip (AllZip IsEntryOf) (notes_of_inputs (run_start settings) es) b) (sym same) q.are),
+        p.run_is ∙ ap (run_after_inputs (run_start settings)) same ∙ sym q.run_is,
       )
 
-  more-at : (slow : ℕ) (inputs : List InputView) (input : InputView) (known entries : List (List EntryView)) (r : RunState)
+  more-at : (settings : RunSettings) (inputs : List InputView) (input : InputView) (known entries : List (List EntryView)) (r : RunState)
       (front back : List (List (List EventView)))
-      → AreEntriesOf slow inputs known r → AllZip AreEventsOf inputs front → AllZip AreEventsOf (input ∷ []) back
-      → AllZip (AllZip IsEntryOf) (notes_of_inputs (run_start slow) (front ++ back)) entries → OneMore input known entries r
-  more-at slow inputs input known entries r front [] are say last zip = absurd last
-  more-at slow inputs input known entries r front (e ∷ (x ∷ xs)) are say last zip = absurd last.1
-  more-at slow inputs input known entries r front (e ∷ []) are say last zip =
+      → AreEntriesOf settings inputs known r → AllZip AreEventsOf inputs front → AllZip AreEventsOf (input ∷ []) back
+      → AllZip (AllZip IsEntryOf) (notes_of_inputs (run_start settings) (front ++ back)) entries → OneMore input known entries r
+  more-at settings inputs input known entries r front [] are say last zip = absurd last
+  more-at settings inputs input known entries r front (e ∷ (x ∷ xs)) are say last zip = absurd last.1
+  more-at settings inputs input known entries r front (e ∷ []) are say last zip =
       let same : front ≡ are.events = one-inputs inputs front are.events say are.say in
-      let first : List (List NoteView) = notes_of_inputs (run_start slow) are.events in
-      let notes : notes_of_inputs (run_start slow) (front ++ e ∷ []) ≡ first ++ notes_of_input r e =
-      inputs-notes (run_start slow) front e
-      ∙ ap (λ es. notes_of_inputs (run_start slow) es ++ notes_of_input (run_after_inputs (run_start slow) es) e) same
+      let first : List (List NoteView) = notes_of_inputs (run_start settings) are.events in
+      let notes : notes_of_inputs (run_start settings) (front ++ e ∷ []) ≡ first ++ notes_of_input r e =
+      inputs-notes (run_start settings) front e
+      ∙ ap (λ es. notes_of_inputs (run_start settings) es ++ notes_of_input (run_after_inputs (run_start settings) es) e) same
       ∙ ap (λ x. first ++ notes_of_input x e) (sym are.run_is) in
       let split = zip-split (AllZip IsEntryOf) first (notes_of_input r e) entries (subst (λ ns. AllZip (AllZip IsEntryOf) ns entries) notes zip) in
       let fronts : split.front ≡ known = one-lists one_entry first split.front known split.first are.are in
@@ -108,18 +109,19 @@ module _ (one-reading-of-line : OneReadingOfLine) (one_entry : OneEntry) where
         are = split.second;
       }
 
-  pub one-more : (slow : ℕ) (inputs : List InputView) (input : InputView) (known entries : List (List EntryView)) (r s : RunState)
-      → AreEntriesOf slow inputs known r → AreEntriesOf slow (inputs ++ input ∷ []) entries s → OneMore input known entries r
-  one-more slow inputs input known entries r s are all =
+  pub one-more : (settings : RunSettings) (inputs : List InputView) (input : InputView) (known entries : List (List EntryView)) (r s : RunState)
+      → AreEntriesOf settings inputs known r → AreEntriesOf settings (inputs ++ input ∷ []) entries s → OneMore input known entries r
+  one-more settings inputs input known entries r s are all =
       let split = zip-split AreEventsOf inputs (input ∷ []) all.events all.say in
-      more-at slow inputs input known entries r split.front split.back are split.first split.second
-      (subst (λ es. AllZip (AllZip IsEntryOf) (notes_of_inputs (run_start slow) es) entries) split.is all.are)
+      more-at settings inputs input known entries r split.front split.back are split.first split.second
+      (subst (λ es. AllZip (AllZip IsEntryOf) (notes_of_inputs (run_start settings) es) entries) split.is all.are)
 
   -- inputs have at most one report, and one end of the run
-  pub one-report : (slow : ℕ) (line : List EntryView → List ℕ) (last : List EntryView → RunEnd → List ℕ) (inputs : List InputView) (a b : List ℕ) (d e : RunEnd)
-      → IsReport slow line last inputs a d → IsReport slow line last inputs b e → (a ≡ b) × (d ≡ e)
-  one-report slow line last inputs a b d e p q =
-      let one = one-entries slow inputs p.entries q.entries p.run q.run p.are q.are in
+  pub one-report : (settings : RunSettings) (line : List EntryView → List ℕ) (last : List EntryView → RunEnd → List ℕ) (inputs : List InputView)
+      (a b : List ℕ) (d e : RunEnd)
+      → IsReport settings line last inputs a d → IsReport settings line last inputs b e → (a ≡ b) × (d ≡ e)
+  one-report settings line last inputs a b d e p q =
+      let one = one-entries settings inputs p.entries q.entries p.run q.run p.are q.are in
       let end : d ≡ e = p.end_is ∙ ap end_of one.1 ∙ sym q.end_is in (
         p.is ∙ ap (λ es. flat_map line es ++ last (all_entries es) d) one.0
             ∙ ap (λ x. flat_map line q.entries ++ last (all_entries q.entries) x) end ∙ sym q.is,
@@ -127,9 +129,9 @@ module _ (one-reading-of-line : OneReadingOfLine) (one_entry : OneEntry) where
       )
 
 -- no inputs have no entries
-pub entries-none : (slow : ℕ) (run : TestRun) → run_state run ≡ (run_start slow) → AreEntriesOf slow [] [] (run_of run)
+pub entries-none : (settings : RunSettings) (run : TestRun) → run_state run ≡ (run_start settings) → AreEntriesOf settings [] [] (run_of run)
 unfolding run_of
-entries-none slow run is = record { events = []; say = tt; are = tt; run_is = is }
+entries-none settings run is = record { events = []; say = tt; are = tt; run_is = is }
 
 end-known : (run : TestRun) (end : RunEnd) → end ≡ end_of (run_state run) → end ≡ end_of (run_of run)
 unfolding run_of
@@ -260,14 +262,14 @@ module _ {F : Type 0} (line : F → List EntryView → List ℕ) (last : F → L
   -- a report read one more input
   pub reads-more : (old new : Report F) (input : InputView) (b w : Option (List ℕ)) → TakesInput old new input b w
       → ReadsOneMore line last Knows old new input b w
-  reads-more old new input b w read slow form inputs written has =
+  reads-more old new input b w read settings form inputs written has =
       let took = read.writes.1 in
       let f : List EntryView → List ℕ = line form in
       let more : read.writes.0 ≡ flat_map f took.entries = took.is ∙ ap (λ g. flat_map g took.entries) has.line_is in (
         read.writes.0,
         record {
           entries = has.entries ++ took.entries;
-          are = entries-more slow inputs input has.entries took.entries (run_of old.run) (run_of new.run) read.events has.are read.say took.are read.run_is;
+          are = entries-more settings inputs input has.entries took.entries (run_of old.run) (run_of new.run) read.events has.are read.say took.are read.run_is;
           is = ap (λ x. x ++ read.writes.0) has.is ∙ ap (λ x. flat_map f has.entries ++ x) more ∙ sym (flat_map-append f has.entries took.entries);
           knows = subst (Knows new.form) (sym (flat_map-append (λ line. line) has.entries took.entries)) (took.form.knows (all_entries has.entries) has.knows);
           line_is = took.form.line_is ∙ has.line_is;
@@ -278,12 +280,13 @@ module _ {F : Type 0} (line : F → List EntryView → List ℕ) (last : F → L
 
   -- so did its forms of files
   pub files-more : (old new : Report F) (input : InputView) (b w : Option (List ℕ)) → TakesInput old new input b w
-      → (slow : ℕ) (files : FileForms) (inputs : List InputView) → FilesHaveRead slow files old inputs → FilesHaveRead slow files new (inputs ++ input ∷ [])
-  files-more old new input b w read slow files inputs has =
+      → (settings : RunSettings) (files : FileForms) (inputs : List InputView) → FilesHaveRead settings files old inputs
+      → FilesHaveRead settings files new (inputs ++ input ∷ [])
+  files-more old new input b w read settings files inputs has =
       let took = read.writes.1 in
       record {
         entries = has.entries ++ took.entries;
-        are = entries-more slow inputs input has.entries took.entries (run_of old.run) (run_of new.run) read.events has.are read.say took.are read.run_is;
+        are = entries-more settings inputs input has.entries took.entries (run_of old.run) (run_of new.run) read.events has.are read.say took.are read.run_is;
         know = subst (FilesKnow new.files) (sym (flat_map-append (λ line. line) has.entries took.entries)) (took.files.know (all_entries has.entries) has.know);
         say = λ entries end texts say. has.say entries end texts (took.files.say entries end texts say);
       }
@@ -322,34 +325,34 @@ module _ {F : Type 0} (line : F → List EntryView → List ℕ) (last : F → L
 
   pub pieces-files : (old mid new : Report F) (x : List ℕ) (a m b v w : Option (List ℕ)) → ReadsPiece line last Knows old mid [] x a m b v
       → IfSome m (λ rest. ReadsInput line last Knows None mid new (x ++ rest) v w)
-      → IfSome a (λ input. (slow : ℕ) (files : FileForms) (inputs : List InputView) → FilesHaveRead slow files old inputs
-      → FilesHaveRead slow files new (inputs ++ file input ∷ []))
+      → IfSome a (λ input. (settings : RunSettings) (files : FileForms) (inputs : List InputView) → FilesHaveRead settings files old inputs
+      → FilesHaveRead settings files new (inputs ++ file input ∷ []))
   pieces-files old mid new x None m b v w pieces read = tt
   pieces-files old mid new x (Some xs) m b v w pieces read =
       files-more old new (file xs) b w (file-taken old new xs b w (pieces-end old mid new x (Some xs) m b v w pieces read))
 
   -- a report that has read nothing
-  pub read-none : (slow : ℕ) (report : Report F) → run_state report.run ≡ run_start slow → Knows report.form []
-      → HasRead line last Knows slow report.form report [] []
-  read-none slow report is knows = record {
+  pub read-none : (settings : RunSettings) (report : Report F) → run_state report.run ≡ run_start settings → Knows report.form []
+      → HasRead line last Knows settings report.form report [] []
+  read-none settings report is knows = record {
     entries = [];
-    are = entries-none slow report.run is;
+    are = entries-none settings report.run is;
     is = refl;
     knows = knows;
     line_is = refl;
     last_is = refl;
   }
 
-  pub files-read-none : (slow : ℕ) (report : Report F) → run_state report.run ≡ run_start slow → FilesKnow report.files []
-      → FilesHaveRead slow report.files report []
-  files-read-none slow report is know = record { entries = []; are = entries-none slow report.run is; know = know; say = λ entries end texts say. say }
+  pub files-read-none : (settings : RunSettings) (report : Report F) → run_state report.run ≡ run_start settings → FilesKnow report.files []
+      → FilesHaveRead settings report.files report []
+  files-read-none settings report is know = record { entries = []; are = entries-none settings report.run is; know = know; say = λ entries end texts say. say }
 
   -- the texts of the files
-  pub files-say : (slow : ℕ) (report : Report F) (files : FileForms) (inputs : List InputView) (end : RunEnd) (texts : FileTexts)
+  pub files-say : (settings : RunSettings) (report : Report F) (files : FileForms) (inputs : List InputView) (end : RunEnd) (texts : FileTexts)
       → end ≡ end_of (run_state report.run) → ((entries : List EntryView) → FilesKnow report.files entries
-      → FilesSay report.files entries end texts) → FilesHaveRead slow files report inputs
-      → AreTexts slow files inputs texts
-  files-say slow report files inputs end texts end_is say has = record {
+      → FilesSay report.files entries end texts) → FilesHaveRead settings files report inputs
+      → AreTexts settings files inputs texts
+  files-say settings report files inputs end texts end_is say has = record {
     entries = has.entries;
     run = run_of report.run;
     are = has.are;
@@ -361,7 +364,7 @@ module _ {F : Type 0} (line : F → List EntryView → List ℕ) (last : F → L
   pub report-ends : (report : Report F) (end : RunEnd) (text : List ℕ) (b w : Option (List ℕ)) → end ≡ end_of (run_state report.run)
       → ((entries : List EntryView) → Knows report.form entries → text ≡ last report.form entries end) → Appends b w text
       → Finishes line last Knows report end b w
-  report-ends report end text b w end_is is appends slow form inputs written has = (
+  report-ends report end text b w end_is is appends settings form inputs written has = (
     text,
     record {
       entries = has.entries;
@@ -376,7 +379,7 @@ module _ {F : Type 0} (line : F → List EntryView → List ℕ) (last : F → L
 
   -- nothing is written of the end
   pub ends-off-none : (report : Report F) (b : Option (List ℕ)) → BreaksOffEnd line last Knows report b b
-  ends-off-none report b slow form inputs written more end has is = ([], more, refl, Appends-nil b)
+  ends-off-none report b settings form inputs written more end has is = ([], more, refl, Appends-nil b)
 
 module _ (one-reading-of-line : OneReadingOfLine) (one_entry : OneEntry) {F : Type 0} (line : F → List EntryView → List ℕ)
     (last : F → List EntryView → RunEnd → List ℕ) (Knows : F → List EntryView → Type 0) where
@@ -384,9 +387,9 @@ module _ (one-reading-of-line : OneReadingOfLine) (one_entry : OneEntry) {F : Ty
   pub breaks-off : (old : Report F) (input : InputView) (b w : Option (List ℕ))
       → ((events : List (List EventView)) → AreEventsOf input events → AppendsLinesStart (line old.form) (notes_of_input (run_of old.run) events) b w)
       → BreaksOff line last Knows old input b w
-  breaks-off old input b w starts slow form inputs written more has lines =
+  breaks-off old input b w starts settings form inputs written more has lines =
       let f : List EntryView → List ℕ = line form in
-      let one = one-more one-reading-of-line one_entry slow inputs input has.entries lines.entries (run_of old.run) lines.run has.are lines.are in
+      let one = one-more one-reading-of-line one_entry settings inputs input has.entries lines.entries (run_of old.run) lines.run has.are lines.are in
       let whole : written ++ more ≡ written ++ flat_map f one.more =
       lines.is ∙ ap (flat_map f) one.is ∙ flat_map-append f has.entries one.more ∙ ap (λ x. x ++ flat_map f one.more) (sym has.is) in
       let is : flat_map (line old.form) one.more ≡ more =
@@ -438,7 +441,7 @@ module _ (one-reading-of-line : OneReadingOfLine) (one_entry : OneEntry) {F : Ty
       → ((entries : List EntryView) → Knows report.form entries → text ≡ last report.form entries end) → AppendsStart b w text
       → BreaksOffEnd line last Knows report b w
   unfolding report-ends
-  ends-off report end text b w end_is is start slow form inputs written more d has other =
-      let mine = report-ends line last Knows report end text None None end_is is tt slow form inputs written has in
-      let same = one-report one-reading-of-line one_entry slow (line form) (last form) inputs (written ++ text) (written ++ more) end d mine.1 other in
+  ends-off report end text b w end_is is start settings form inputs written more d has other =
+      let mine = report-ends line last Knows report end text None None end_is is tt settings form inputs written has in
+      let same = one-report one-reading-of-line one_entry settings (line form) (last form) inputs (written ++ text) (written ++ more) end d mine.1 other in
       subst (AppendsStart b w) (append_cancel_left written text more same.0) start

@@ -12,6 +12,7 @@ use Rattle.test_report_forms.specs.Files.{FilesKnow, FilesSay}
 use Rattle.test_report_forms.specs.declared.files.FileForms.{FileForms}
 use Rattle.test_report_forms.specs.declared.files.FileTexts.{FileTexts}
 use Rattle.test_report_run.specs.declared.run.TestRun.{TestRun}
+use Rattle.test_report_run.specs.Run.{RunSettings}
 use Rattle.test_report_engine.specs.Fits.{InputFits}
 use Rattle.test_report_engine.specs.Lines.{AreLineEvents, InputView, events_after, output}
 use Rattle.test_report_engine.specs.Report.{AreEntriesOf, AreLinesOf, IsReport, after_line, all_entries, line_notes, notes_of_input, run_after_input, run_of}
@@ -27,9 +28,9 @@ pub record FilesTake (old new : FileForms) (entries : List EntryView) : Type 0 w
   pub say : SaysAs new old
 
 -- a report whose forms of files were these at first has read these inputs. A test is slow from this time on
-pub record FilesHaveRead {F : Type 0} (slow : ℕ) (files : FileForms) (report : Report F) (inputs : List InputView) : Type 0 where
+pub record FilesHaveRead {F : Type 0} (settings : RunSettings) (files : FileForms) (report : Report F) (inputs : List InputView) : Type 0 where
   pub entries : List (List EntryView)
-  pub are : AreEntriesOf slow inputs entries (run_of report.run)
+  pub are : AreEntriesOf settings inputs entries (run_of report.run)
   pub know : FilesKnow report.files (all_entries entries)
   pub say : SaysAs report.files files
 
@@ -77,9 +78,9 @@ pub record TakesLine (old new : TestRun) (bytes : List ℕ) (notes : List NoteVi
 
 module _ {F : Type 0} (line : F → List EntryView → List ℕ) (last : F → List EntryView → RunEnd → List ℕ) (Knows : F → List EntryView → Type 0) where
   -- a report whose form was this at first has read these inputs, and written this. A test is slow from this time on
-  pub record HasRead (slow : ℕ) (form : F) (report : Report F) (inputs : List InputView) (written : List ℕ) : Type 0 where
+  pub record HasRead (settings : RunSettings) (form : F) (report : Report F) (inputs : List InputView) (written : List ℕ) : Type 0 where
     pub entries : List (List EntryView)
-    pub are : AreEntriesOf slow inputs entries (run_of report.run)
+    pub are : AreEntriesOf settings inputs entries (run_of report.run)
     pub is : written ≡ flat_map (line form) entries
     pub knows : Knows report.form (all_entries entries)
     pub line_is : line report.form ≡ line form
@@ -137,14 +138,14 @@ module _ {F : Type 0} (line : F → List EntryView → List ℕ) (last : F → L
   -- a report that has read some inputs has then read this one too, and its lines were appended
   abbrev pub ReadsOneMore : Report F → Report F → InputView → Option (List ℕ) → Option (List ℕ) → Type 0
   ReadsOneMore old new input before after =
-      (slow : ℕ) (form : F) (inputs : List InputView) (written : List ℕ) → HasRead slow form old inputs written
-      → (more : List ℕ) × HasRead slow form new (inputs ++ input ∷ []) (written ++ more) × Appends before after more
+      (settings : RunSettings) (form : F) (inputs : List InputView) (written : List ℕ) → HasRead settings form old inputs written
+      → (more : List ℕ) × HasRead settings form new (inputs ++ input ∷ []) (written ++ more) × Appends before after more
 
   -- a beginning of what is written of one more input was appended, whatever that is
   abbrev pub BreaksOff : Report F → InputView → Option (List ℕ) → Option (List ℕ) → Type 0
   BreaksOff old input before after =
-      (slow : ℕ) (form : F) (inputs : List InputView) (written more : List ℕ) → HasRead slow form old inputs written
-      → AreLinesOf slow (line form) (inputs ++ input ∷ []) (written ++ more) → AppendsStart before after more
+      (settings : RunSettings) (form : F) (inputs : List InputView) (written more : List ℕ) → HasRead settings form old inputs written
+      → AreLinesOf settings (line form) (inputs ++ input ∷ []) (written ++ more) → AppendsStart before after more
 
   -- A report is ready for the output of a command whose suites have these names: what it reads of it up to the end of the command is then one more
   -- input. Its run has taken the start of the command.
@@ -153,8 +154,8 @@ module _ {F : Type 0} (line : F → List EntryView → List ℕ) (last : F → L
         → ReadsInput (Some end) new last bytes before after → ReadsOneMore old last (output names bytes end) before after
     pub files : (bytes : List ℕ) (end : CommandView) (last : Report F) (before after : Option (List ℕ))
         → ReadsInput (Some end) new last bytes before after
-        → (slow : ℕ) (files : FileForms) (inputs : List InputView) → FilesHaveRead slow files old inputs
-        → FilesHaveRead slow files last (inputs ++ output names bytes end ∷ [])
+        → (settings : RunSettings) (files : FileForms) (inputs : List InputView) → FilesHaveRead settings files old inputs
+        → FilesHaveRead settings files last (inputs ++ output names bytes end ∷ [])
     pub breaks_off : (bytes : List ℕ) (end : CommandView) (before after : Option (List ℕ))
         → ReadsStart (Some end) line new bytes before after → BreaksOff old (output names bytes end) before after
     pub run_is : run_of new.run ≡ after_line (run_of old.run) (CommandStarts names ∷ [])
@@ -162,11 +163,11 @@ module _ {F : Type 0} (line : F → List EntryView → List ℕ) (last : F → L
   -- the end of the report was appended, and this is the end of the run
   abbrev pub Finishes : Report F → RunEnd → Option (List ℕ) → Option (List ℕ) → Type 0
   Finishes report end before after =
-      (slow : ℕ) (form : F) (inputs : List InputView) (written : List ℕ) → HasRead slow form report inputs written
-      → (more : List ℕ) × IsReport slow (line form) (last form) inputs (written ++ more) end × Appends before after more
+      (settings : RunSettings) (form : F) (inputs : List InputView) (written : List ℕ) → HasRead settings form report inputs written
+      → (more : List ℕ) × IsReport settings (line form) (last form) inputs (written ++ more) end × Appends before after more
 
   -- a beginning of the end of the report was appended, whatever that is
   abbrev pub BreaksOffEnd : Report F → Option (List ℕ) → Option (List ℕ) → Type 0
   BreaksOffEnd report before after =
-      (slow : ℕ) (form : F) (inputs : List InputView) (written more : List ℕ) (end : RunEnd) → HasRead slow form report inputs written
-      → IsReport slow (line form) (last form) inputs (written ++ more) end → AppendsStart before after more
+      (settings : RunSettings) (form : F) (inputs : List InputView) (written more : List ℕ) (end : RunEnd) → HasRead settings form report inputs written
+      → IsReport settings (line form) (last form) inputs (written ++ more) end → AppendsStart before after more

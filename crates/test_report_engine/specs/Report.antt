@@ -10,7 +10,7 @@ use Rattle.test_report_forms.specs.declared.files.FileForms.{FileForms}
 use Rattle.test_report_forms.specs.declared.files.FileTexts.{FileTexts}
 use Rattle.test_report_run.specs.Run as spec
 use Rattle.test_report_run.specs.FileEnd.{after_file, end_of, file_notes}
-use Rattle.test_report_run.specs.Run.{RunState, run_start, run_state}
+use Rattle.test_report_run.specs.Run.{RunSettings, RunState, run_start, run_state}
 use Rattle.test_report_run.specs.declared.run.TestRun.{TestRun}
 use Rattle.test_report_engine.specs.Lines.{AreEventsOf, InputView}
 
@@ -23,7 +23,7 @@ is_of_no_suite (StraySuiteEnds name failed) = false
 is_of_no_suite (StartsOutside tests) = false
 is_of_no_suite (CargoSays report) = true
 is_of_no_suite (IsDamaged text) = false
-is_of_no_suite HasNoEvent = true
+is_of_no_suite (HasNoEvent file) = true
 is_of_no_suite (CommandFails end) = true
 
 -- the last note of a part of what the end of an input makes known: the numbers of a suite, or a disagreement of no suite
@@ -104,32 +104,33 @@ all_entries entries = flat_map (λ line. line) entries
 
 -- these are the entries of the run that inputs describe, of each line and of each part of the end of an input a list, and the run after them. A test is
 -- slow from this time on
-pub record AreEntriesOf (slow : ℕ) (inputs : List InputView) (entries : List (List EntryView)) (run : RunState) : Type 0 where
+pub record AreEntriesOf (settings : RunSettings) (inputs : List InputView) (entries : List (List EntryView)) (run : RunState) : Type 0 where
   pub events : List (List (List EventView))
   pub say : AllZip AreEventsOf inputs events
-  pub are : AllZip (AllZip IsEntryOf) (notes_of_inputs (run_start slow) events) entries
-  pub run_is : run ≡ run_after_inputs (run_start slow) events
+  pub are : AllZip (AllZip IsEntryOf) (notes_of_inputs (run_start settings) events) entries
+  pub run_is : run ≡ run_after_inputs (run_start settings) events
 
 -- this is written of inputs before the end of the report: the text of the entries of each line, and of each part of the end of an input
-pub record AreLinesOf (slow : ℕ) (line : List EntryView → List ℕ) (inputs : List InputView) (text : List ℕ) : Type 0 where
+pub record AreLinesOf (settings : RunSettings) (line : List EntryView → List ℕ) (inputs : List InputView) (text : List ℕ) : Type 0 where
   pub entries : List (List EntryView)
   pub run : RunState
-  pub are : AreEntriesOf slow inputs entries run
+  pub are : AreEntriesOf settings inputs entries run
   pub is : text ≡ flat_map line entries
 
 -- this is the report of inputs, and the end of the run: the text of the entries of each line and of each part of the end of an input, and then the end of
 -- the report
-pub record IsReport (slow : ℕ) (line : List EntryView → List ℕ) (last : List EntryView → RunEnd → List ℕ) (inputs : List InputView) (text : List ℕ)
+pub record IsReport (settings : RunSettings) (line : List EntryView → List ℕ) (last : List EntryView → RunEnd → List ℕ) (inputs : List InputView)
+    (text : List ℕ)
     (end : RunEnd) : Type 0 where
   pub entries : List (List EntryView)
   pub run : RunState
-  pub are : AreEntriesOf slow inputs entries run
+  pub are : AreEntriesOf settings inputs entries run
   pub is : text ≡ flat_map line entries ++ last (all_entries entries) end
   pub end_is : end ≡ end_of run
 
 -- these are the texts of the files for inputs
-pub record AreTexts (slow : ℕ) (files : FileForms) (inputs : List InputView) (texts : FileTexts) : Type 0 where
+pub record AreTexts (settings : RunSettings) (files : FileForms) (inputs : List InputView) (texts : FileTexts) : Type 0 where
   pub entries : List (List EntryView)
   pub run : RunState
-  pub are : AreEntriesOf slow inputs entries run
+  pub are : AreEntriesOf settings inputs entries run
   pub say : FilesSay files (all_entries entries) (end_of run) texts

@@ -8,7 +8,7 @@ ghost use Rattle.test_report_run_notes.specs.Note.{command_view, note_view};
 ghost use Rattle.test_report_forms.specs.Files.{FilesKnow};
 ghost use Rattle.test_report_forms.specs.Form.{lines};
 ghost use Rattle.test_report_forms.specs.declared.files.FileForms.{FileForms};
-ghost use Rattle.test_report_run.specs.Run.{after, run_state};
+ghost use Rattle.test_report_run.specs.Run.{RunSettings, after, run_settings, run_state};
 ghost use Rattle.test_report_run.specs.SuiteNames.{names_of};
 ghost use Rattle.test_report_engine.specs.Fits.{LineEventsFit, NotFull};
 ghost use Rattle.test_report_engine.specs.Lines.{InputView, IsOneLine, file};
@@ -26,6 +26,7 @@ use program_io::device::{Sink, Source};
 use program_io::transfer::write_all;
 use run_events_results::results::CancelReason;
 use std::alloc::{AllocError, Global};
+use std::collections::VecDeque;
 use test_report_forms::entry::Entry;
 use test_report_forms::files::{FileForms, FileTexts};
 use test_report_forms::form::Form;
@@ -51,7 +52,8 @@ impl<F: Form + Drop> Report<F> {
     /// Returns a report that has read and written nothing. A test whose time is at least `slow` microseconds is
     /// slow.
     pub fn new(alloc: Global, form: F, slow: u64) -> Report<F>
-        ensures reads { F.Knows form [] → reading.HasRead (lines F.line F.line_end) F.last F.Knows slow form result [] [] }
+        ensures reads { F.Knows form [] → reading.HasRead (lines F.line F.line_end) F.last F.Knows
+            (run_settings slow []) form result [] [] }
     {
         Report::with_files(alloc, form, FileForms::none(), slow)
     }
@@ -60,11 +62,29 @@ impl<F: Form + Drop> Report<F> {
     /// `file_texts` returns them after the last file of the run. A test whose time is at least `slow` microseconds
     /// is slow.
     pub fn with_files(alloc: Global, form: F, files: FileForms, slow: u64) -> Report<F>
-        ensures reads { F.Knows form [] → reading.HasRead (lines F.line F.line_end) F.last F.Knows slow form result [] [] }
-        ensures files { FilesKnow files [] → reading.FilesHaveRead slow files result [] }
+        ensures reads { F.Knows form [] → reading.HasRead (lines F.line F.line_end) F.last F.Knows
+            (run_settings slow []) form result [] [] }
+        ensures files { FilesKnow files [] → reading.FilesHaveRead (run_settings slow []) files result [] }
+    {
+        Report::with_file_names(alloc, form, files, slow, VecDeque::new(alloc))
+    }
+
+    /// Returns the same, for a run of several files with these names, in the order in which they are read. A file
+    /// without events is reported by its name.
+    pub fn with_file_names(
+        alloc: Global,
+        form: F,
+        files: FileForms,
+        slow: u64,
+        file_names: VecDeque<String>,
+    ) -> Report<F>
+        ensures reads { F.Knows form [] → reading.HasRead (lines F.line F.line_end) F.last F.Knows
+            (run_settings slow (map string_bytes file_names.items)) form result [] [] }
+        ensures files { FilesKnow files []
+            → reading.FilesHaveRead (run_settings slow (map string_bytes file_names.items)) files result [] }
     {
         Report {
-            run: TestRun::new(alloc, slow),
+            run: TestRun::with_file_names(alloc, slow, file_names),
             form,
             files,
         }
@@ -103,9 +123,9 @@ impl<F: Form + Drop> Report<F> {
             (λ input. reading.ReadsOneMore (lines F.line F.line_end) F.last F.Knows self.old self.new (file input)
             (W.written sink.old) (W.written sink.new))) }
         ensures files { OnOk result (IfSome (R.left source.old)
-            (λ input. (slow : ℕ) (files : FileForms) (inputs : List InputView)
-            → reading.FilesHaveRead slow files self.old inputs
-            → reading.FilesHaveRead slow files self.new (inputs ++ file input ∷ []))) }
+            (λ input. (settings : RunSettings) (files : FileForms) (inputs : List InputView)
+            → reading.FilesHaveRead settings files self.old inputs
+            → reading.FilesHaveRead settings files self.new (inputs ++ file input ∷ []))) }
         ensures breaks_off { OnErr result (IfSome (R.left source.old)
             (λ input. reading.BreaksOff (lines F.line F.line_end) F.last F.Knows self.old (file input)
             (W.written sink.old) (W.written sink.new))) }
@@ -277,12 +297,12 @@ impl<F: Form + Drop> Report<F> {
 
     /// Returns the texts of the files. Call it after the last file of the run was read.
     pub fn file_texts(&mut self, alloc: Global) -> Result<FileTexts, Fault>
-        ensures texts { IfOk result (λ texts. (slow : ℕ) (files : FileForms) (inputs : List InputView)
-            → reading.FilesHaveRead slow files self.old inputs → AreTexts slow files inputs texts) }
+        ensures texts { IfOk result (λ texts. (settings : RunSettings) (files : FileForms) (inputs : List InputView)
+            → reading.FilesHaveRead settings files self.old inputs → AreTexts settings files inputs texts) }
         ensures errors { IfErr result (λ e. e ≡ faults.OutOfMemory) }
-        ensures same { (slow : ℕ) (form : F) (inputs : List InputView) (written : List ℕ)
-            → reading.HasRead (lines F.line F.line_end) F.last F.Knows slow form self.old inputs written
-            → reading.HasRead (lines F.line F.line_end) F.last F.Knows slow form self.new inputs written }
+        ensures same { (settings : RunSettings) (form : F) (inputs : List InputView) (written : List ℕ)
+            → reading.HasRead (lines F.line F.line_end) F.last F.Knows settings form self.old inputs written
+            → reading.HasRead (lines F.line F.line_end) F.last F.Knows settings form self.new inputs written }
     {
         let end = self.run.end();
         Ok(self.files.texts(alloc, &end)?)

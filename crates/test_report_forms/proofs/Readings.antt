@@ -55,7 +55,7 @@ module _ (heads : TakenHeadsExist) (extraction : OneExtraction) where
   one-reason (StraySuiteEnds key failed) v w p q = p ∙ sym q
   one-reason (StartsOutside n) v w p q = p ∙ sym q
   one-reason (IsDamaged text) v w p q = p ∙ sym q
-  one-reason HasNoEvent v w p q = p ∙ sym q
+  one-reason (HasNoEvent file) v w p q = p ∙ sym q
   one-reason (CommandFails end) v w p q = p ∙ sym q
 
 module _ (one : OneWhy) (reason : OneReason) where

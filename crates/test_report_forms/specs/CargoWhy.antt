@@ -27,5 +27,5 @@ IsReasonOf (StrayEnds name how) why = why ≡ None
 IsReasonOf (StraySuiteEnds key failed) why = why ≡ None
 IsReasonOf (StartsOutside n) why = why ≡ None
 IsReasonOf (IsDamaged text) why = why ≡ None
-IsReasonOf HasNoEvent why = why ≡ None
+IsReasonOf (HasNoEvent file) why = why ≡ None
 IsReasonOf (CommandFails end) why = why ≡ None

@@ -89,7 +89,7 @@ suite_of (StraySuiteEnds key failed) = None
 suite_of (StartsOutside n) = None
 suite_of (CargoSays report) = None
 suite_of (IsDamaged text) = None
-suite_of HasNoEvent = None
+suite_of (HasNoEvent file) = None
 suite_of (CommandFails end) = None
 
 -- no line of a file was an event of a harness, or not before cargo said that tests failed
@@ -101,7 +101,7 @@ lacks_events (StraySuiteEnds key failed) = false
 lacks_events (StartsOutside n) = false
 lacks_events (CargoSays report) = report.lacks_events
 lacks_events (IsDamaged text) = false
-lacks_events HasNoEvent = true
+lacks_events (HasNoEvent file) = true
 lacks_events (CommandFails end) = false
 
 -- the cause of an entry, if it has one

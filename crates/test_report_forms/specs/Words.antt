@@ -74,6 +74,11 @@ command_words (NotStarted error) = codes "could not be started: " ++ shown_line 
 command_words (BySignal number) = codes "ended by signal " ++ decimal number
 command_words (WithStatus code) = codes "ended with status " ++ (decimal code ++ codes ", and no line says why")
 
+-- the name of a file, or `the input` if the run has only one
+unfoldable pub input_words : Option (List ℕ) → List ℕ
+input_words None = codes "the input"
+input_words (Some file) = shown_name file
+
 -- the line of a disagreement
 unfoldable pub disagreement_line : DisagreementView → List ℕ
 disagreement_line (EndsEarly suite) = shown_name suite ++ codes " ended early"
@@ -83,7 +88,7 @@ disagreement_line (StraySuiteEnds key failed) = codes "a suite ended that had no
 disagreement_line (StartsOutside n) = decimal n ++ codes " tests started outside of a suite"
 disagreement_line (CargoSays report) = codes "cargo: " ++ shown_line report.line
 disagreement_line (IsDamaged text) = codes "a damaged line says that a test or a suite failed: " ++ shown_line text
-disagreement_line HasNoEvent = codes "no line of the input is of a test run"
+disagreement_line (HasNoEvent file) = codes "no line of " ++ (input_words file ++ codes " is of a test run")
 disagreement_line (CommandFails end) = codes "the command " ++ command_words end
 
 -- the line of the tests of a suite that were not run

@@ -26,7 +26,7 @@ pub(crate) fn disagreement_why(
         | Disagreement::StraySuiteEnd { .. }
         | Disagreement::OutsideSuite { .. }
         | Disagreement::Damaged { .. }
-        | Disagreement::NoEvent
+        | Disagreement::NoEvent { .. }
         | Disagreement::Command(_) => Ok(None),
     }
 }

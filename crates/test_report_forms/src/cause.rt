@@ -5,7 +5,7 @@ ghost use Rattle.test_report_run_notes.specs.Note.{command_view, disagreement_vi
 ghost use Rattle.test_report_forms.specs.Entry.{entry_view};
 ghost use Rattle.test_report_forms.specs.Model as spec;
 ghost use Rattle.test_report_forms.specs.Model.{cause_of_entry, cause_view, lacks_events, problem_of, problem_view, suite_of};
-ghost use Rattle.test_report_forms.specs.Words.{command_words, disagreement_line, its_tests, not_run_line, result_word, said_numbers, said_text, key_and_verdict, verdict_word};
+ghost use Rattle.test_report_forms.specs.Words.{command_words, disagreement_line, input_words, its_tests, not_run_line, result_word, said_numbers, said_text, key_and_verdict, verdict_word};
 
 use crate::entry::Entry;
 use crate::junit_case::text_of;
@@ -120,7 +120,7 @@ fn suite_of(disagreement: &Disagreement) -> Option<&Rc<String>>
         | Disagreement::OutsideSuite { .. }
         | Disagreement::Cargo(_)
         | Disagreement::Damaged { .. }
-        | Disagreement::NoEvent
+        | Disagreement::NoEvent { .. }
         | Disagreement::Command(_) => None,
     }
 }
@@ -131,7 +131,7 @@ fn lacks_events(disagreement: &Disagreement) -> bool
 {
     match disagreement {
         Disagreement::Cargo(report) => report.lacks_events,
-        Disagreement::NoEvent => true,
+        Disagreement::NoEvent { .. } => true,
         Disagreement::EndedEarly { .. }
         | Disagreement::LastLine { .. }
         | Disagreement::StrayEnd { .. }
@@ -205,11 +205,27 @@ fn push_disagreement(text: &mut String, disagreement: &Disagreement) -> Result<(
             text.push_str("a damaged line says that a test or a suite failed: ")?;
             push_line(text, line.as_str())
         }
-        Disagreement::NoEvent => text.push_str("no line of the input is of a test run"),
+        Disagreement::NoEvent { file } => {
+            text.push_str("no line of ")?;
+            push_input(text, file)?;
+            text.push_str(" is of a test run")
+        }
         Disagreement::Command(end) => {
             text.push_str("the command ")?;
             push_command_end(text, end)
         }
+    }
+}
+
+/// Appends the name of a file, or `the input` if the run has only one.
+#[tactic(auto, unfolding(crate::specs::Words::input_words))]
+fn push_input(text: &mut String, file: &Option<String>) -> Result<(), AllocError>
+    ensures { OnOk result (string_bytes text.new
+        ≡ string_bytes text.old ++ input_words (text_view file.now)) }
+{
+    match file {
+        Some(file) => push_name(text, file.as_str()),
+        None => text.push_str("the input"),
     }
 }
 

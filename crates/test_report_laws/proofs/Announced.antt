@@ -193,13 +193,14 @@ ending-reached e true = refl
 ending-reached e false = refl
 
 pub announced-counted : AnnouncedAreCounted
-announced-counted slow files =
-    let notes = all_notes slow files in
-    let r = run_after_files (run_start slow) files in
+announced-counted settings files =
+    let notes = all_notes settings files in
+    let r = run_after_files (run_start settings) files in
     omega (
       arith,
-      over-run Covered (λ n notes r. n ≤ sum_by reach notes) announced_by (λ n notes r i. omega (arith, i)) covered-line covered-end slow (omega arith) files,
+      over-run Covered (λ n notes r. n ≤ sum_by reach notes) announced_by (λ n notes r i. omega (arith, i)) covered-line covered-end settings
+          (omega arith) files,
       sum-of reached (λ s. s.stats.finished_count + s.skipped + s.not_run) (λ e s. omega arith) refl notes,
-      ap (λ s. reached s.0) (run-sums slow files),
+      ap (λ s. reached s.0) (run-sums settings files),
       ending-reached r.totals (nat_lt 0 r.disagreements),
     )

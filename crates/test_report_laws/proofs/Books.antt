@@ -24,7 +24,7 @@ use Rattle.test_report_run.specs.Others.{OthersView, after_failure}
 use Rattle.test_report_run.specs.Over.{early_notes, explained_of, last_notes}
 use Rattle.test_report_run.specs.Prints.{cut}
 use Rattle.test_report_run.specs.FileEnd.{after_file, file_notes, reports_told}
-use Rattle.test_report_run.specs.Run.{RunState, Step, after, cargo_fails, counts_tests, ended_at, ended_early, heard, is_disagreement, learned, marked, tests_in, notes_at, open_suite, opened, place_of_number, run_start, running_ends, running_over, settled_at, slow_at, started_again, step, stray_ends, stray_over, stray_suite_notes, stray_test, suite_at, suite_place, told, told_at, with_note, with_suite_at, without_tests}
+use Rattle.test_report_run.specs.Run.{RunSettings, RunState, Step, after, cargo_fails, counts_tests, ended_at, ended_early, heard, is_disagreement, learned, marked, notes_at, open_suite, opened, place_of_number, run_start, running_ends, running_over, settled_at, slow_at, started_again, step, stray_ends, stray_over, stray_suite_notes, stray_test, suite_at, suite_place, tests_in, told, told_at, with_note, with_suite_at, without_tests}
 use Rattle.test_report_run.specs.Running.{RunningView, is_same, place_of_end, running_at, with_slow}
 use Rattle.test_report_run.specs.Name.{before_dollar}
 use Rattle.test_report_run.specs.Suite.{FlakyView, OverView, SuiteState, cancelled_by, has_key, joined_by, named, outside_start, suite_start, with_line, with_start}
@@ -405,28 +405,30 @@ module _ {loose : ℕ} {w v : NoteView → ℕ} {h : Kept → ℕ} {Fine : Kept 
         sums = i.all_sums;
       }
 
-  holds-none : (slow : ℕ) → HoldsAll loose w v [] (run_start slow)
-  holds-none slow = record { whole = record { low = omega arith; high = λ _. omega arith }; outside = refl; suites = refl; all_sums = refl }
+  holds-none : (settings : RunSettings) → HoldsAll loose w v [] (run_start settings)
+  holds-none settings = record { whole = record { low = omega arith; high = λ _. omega arith }; outside = refl; suites = refl; all_sums = refl }
 
   -- the books are kept over a whole run, and up to any line
-  pub holds-whole : (slow : ℕ) (files : List (List EventView)) → HoldsAll loose w v (all_notes slow files) (run_after_files (run_start slow) files)
-  holds-whole slow = over-run (λ n. Holds) (λ n. HoldsAll loose w v) (λ e. 0) (λ n. holds-start) (λ n. holds-line) (λ n. holds-file_end) slow
-      (holds-none slow)
+  pub holds-whole : (settings : RunSettings) (files : List (List EventView))
+      → HoldsAll loose w v (all_notes settings files) (run_after_files (run_start settings) files)
+  holds-whole settings = over-run (λ n. Holds) (λ n. HoldsAll loose w v) (λ e. 0) (λ n. holds-start) (λ n. holds-line) (λ n. holds-file_end) settings
+      (holds-none settings)
 
-  pub holds-after : (slow : ℕ) (files : List (List EventView)) (events : List EventView)
-      → Holds (all_notes slow files ++ notes_of (run_after_files (run_start slow) files) events) (run_after (run_after_files (run_start slow) files) events)
-  holds-after slow = up-to-line (λ n. Holds) (λ n. HoldsAll loose w v) (λ e. 0) (λ n. holds-start) (λ n. holds-line) (λ n. holds-file_end) slow
-      (holds-none slow)
+  pub holds-after : (settings : RunSettings) (files : List (List EventView)) (events : List EventView)
+      → Holds (all_notes settings files ++ notes_of (run_after_files (run_start settings) files) events)
+      (run_after (run_after_files (run_start settings) files) events)
+  holds-after settings = up-to-line (λ n. Holds) (λ n. HoldsAll loose w v) (λ e. 0) (λ n. holds-start) (λ n. holds-line) (λ n. holds-file_end) settings
+      (holds-none settings)
 
   -- and so is what each line and each end of a file keep with them
   pub with-books : (P : ℕ → List NoteView → RunState → Type 0) (c : EventView → ℕ)
       → ((n : ℕ) (notes : List NoteView) (r : RunState) (e : EventView) → Holds notes r → P n notes r → P (n + c e) (notes ++ notes_at r e) (after r e))
       → ((n : ℕ) (notes : List NoteView) (r : RunState) → Holds notes r → P n notes r → P n (notes ++ file_notes r) (after_file r))
-      → (slow : ℕ) → P 0 [] (run_start slow) → (files : List (List EventView))
-      → P (sum_by (λ file. sum_by c file) files) (all_notes slow files) (run_after_files (run_start slow) files)
-  with-books P c line end slow first files =
+      → (settings : RunSettings) → P 0 [] (run_start settings) → (files : List (List EventView))
+      → P (sum_by (λ file. sum_by c file) files) (all_notes settings files) (run_after_files (run_start settings) files)
+  with-books P c line end settings first files =
       let inside = λ (n : ℕ) (notes : List NoteView) (r : RunState). Holds notes r × P n notes r in
       let between = λ (n : ℕ) (notes : List NoteView) (r : RunState). HoldsAll loose w v notes r × P n notes r in
       (over-run inside between c (λ n notes r i. (holds-start notes r i.0, i.1))
       (λ n notes r e i. (holds-line notes r e i.0, line n notes r e i.0 i.1))
-      (λ n notes r i. (holds-file_end notes r i.0, end n notes r i.0 i.1)) slow (holds-none slow, first) files).1
+      (λ n notes r i. (holds-file_end notes r i.0, end n notes r i.0 i.1)) settings (holds-none settings, first) files).1

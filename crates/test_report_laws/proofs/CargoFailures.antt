@@ -22,7 +22,7 @@ use Rattle.test_report_run.specs.Events.{is_after_report, is_event}
 use Rattle.test_report_run.specs.Others.{after_failure}
 use Rattle.test_report_run.specs.Suite.{SuiteState}
 use Rattle.test_report_run.specs.FileEnd.{after_file, file_notes, held_told}
-use Rattle.test_report_run.specs.Run.{RunState, Step, after, cargo_fails, disagrees, is_cause, is_explained, notes_at, report_told, run_start, settled, settled_at, step, told, with_report}
+use Rattle.test_report_run.specs.Run.{RunSettings, RunState, Step, after, cargo_fails, disagrees, is_cause, is_explained, notes_at, report_told, run_start, settled, settled_at, step, told, with_report}
 
 -- a command that has started is known up to the end of the file
 of-settled : (r : RunState) (e : EventView) → (ready r e).of_command ≡ r.of_command
@@ -89,9 +89,10 @@ held-line r e i none =
 held-end : (r : RunState) → (after_file r).held ≡ []
 held-end r = ap (λ (x : RunState). x.held) (aside-early (reported_run r)) ∙ held-known (settled r false).run
 
-none-held : (slow : ℕ) (files : List (List EventView)) (events : List EventView) → NoneHeld (run_after (run_after_files (run_start slow) files) events)
-none-held slow = up-to-line (λ n notes r. NoneHeld r) (λ n notes r. NoneHeld r) (λ e. 0) (λ n notes r i. i) (λ n notes r e i. held-line r e i)
-    (λ n notes r i none. held-end r) slow (λ none. refl)
+none-held : (settings : RunSettings) (files : List (List EventView)) (events : List EventView)
+    → NoneHeld (run_after (run_after_files (run_start settings) files) events)
+none-held settings = up-to-line (λ n notes r. NoneHeld r) (λ n notes r. NoneHeld r) (λ e. 0) (λ n notes r i. i) (λ n notes r e i. held-line r e i)
+    (λ n notes r i none. held-end r) settings (λ none. refl)
 
 -- the last failure of cargo becomes known, or is still not known
 abbrev last_waits : RunState → ℕ
@@ -167,41 +168,42 @@ cargo-waits r f line none =
     (λ (x : RunState). 0 < last_waits (record x { others = after_failure r.others }) + r.causes) (λ _. omega arith)
     (λ quiet. omega (arith, some-cause r f (not-both (length r.suites == 0) (is_explained r f) empty quiet)))
 
-module _ (slow : ℕ) (files : List (List EventView)) (r : RunState) (f : CargoFailure) (line plain : List ℕ)
-    (at : IsLineOf slow files r (CargoFails f line plain)) (none : r.suites ≡ []) (never : (run_at_end at).of_command ≡ false) where
+module _ (settings : RunSettings) (files : List (List EventView)) (r : RunState) (f : CargoFailure) (line plain : List ℕ)
+    (at : IsLineOf settings files r (CargoFails f line plain)) (none : r.suites ≡ []) (never : (run_at_end at).of_command ≡ false) where
   abbrev e : EventView
   e = CargoFails f line plain
 
   abbrev known : List NoteView
-  known = all_notes slow at.before ++ notes_of (run_after_files (run_start slow) at.before) at.lines
+  known = all_notes settings at.before ++ notes_of (run_after_files (run_start settings) at.before) at.lines
 
   nothing-held : length (ready r e).held ≡ 0
   nothing-held =
-      let before : NoneHeld r = subst NoneHeld (sym at.run_is) (none-held slow at.before at.lines) in
+      let before : NoneHeld r = subst NoneHeld (sym at.run_is) (none-held settings at.before at.lines) in
       ap (λ (held : List CargoView). length held) (held-ready r e before (of-settled r e ∙ of-rest r (e ∷ at.rest) never))
 
-  pub some-shown : 0 < count_by is_cause (all_notes slow files)
+  pub some-shown : 0 < count_by is_cause (all_notes settings files)
   some-shown =
       let now = ready r e in
-      let bound : Bound known r = subst (Bound known) (sym at.run_is) (bound-after slow at.before at.lines) in
+      let bound : Bound known r = subst (Bound known) (sym at.run_is) (bound-after settings at.before at.lines) in
       let suites : now.suites ≡ [] = ap (λ (x : RunState). x.suites) (only-settled_at r e).run_is ∙ none in
-      let lines = notes_of (run_after_files (run_start slow) at.before) at.lines in
+      let lines = notes_of (run_after_files (run_start settings) at.before) at.lines in
       omega (
         arith,
         cargo-waits now f plain suites,
         after-waits r e,
         rest-shows (after r e) at.rest never,
-        rest-weighs weight slow files r e at,
+        rest-weighs weight settings files r e at,
         bound-ready known r e bound,
         ap if_some (none-reported r false),
         nothing-held,
-        line-weighs weight slow files r e at,
+        line-weighs weight settings files r e at,
         sum_by-append weight known (settled_at r e).notes,
         sum_by-append weight (settled_at r e).notes (told now e).notes,
-        sum_by-append weight (all_notes slow at.before) lines,
-        sum_by-append weight (all_notes slow at.before) (lines ++ notes_at r e),
+        sum_by-append weight (all_notes settings at.before) lines,
+        sum_by-append weight (all_notes settings at.before) (lines ++ notes_at r e),
         sum_by-append weight lines (notes_at r e),
       )
 
 pub cargo-shows : CargoFailureShows
-cargo-shows slow files r f line plain at none never = omega (arith, some-shown slow files r f line plain at none never, causes-of (all_notes slow files))
+cargo-shows settings files r f line plain at none never = omega
+    (arith, some-shown settings files r f line plain at none never, causes-of (all_notes settings files))

@@ -14,7 +14,7 @@ use Rattle.test_report_laws.proofs.RunCauses.{weight}
 use Rattle.test_report_laws.proofs.Sums.{one-most}
 use Rattle.test_report_laws.specs.Whole.{all_notes, notes_of, run_after, run_after_files}
 use Rattle.test_report_run.specs.FileEnd.{after_file, command_notes, file_notes, held_reports, held_told, no_event_notes, reports_told}
-use Rattle.test_report_run.specs.Run.{RunState, Step, after, is_cause, is_new_cause, notes_at, run_start, settled, settled_at, step, told}
+use Rattle.test_report_run.specs.Run.{RunSettings, RunState, Step, after, is_cause, is_new_cause, notes_at, run_start, settled, settled_at, step, told}
 
 -- a note that counts when it becomes known
 abbrev new : NoteView → ℕ
@@ -133,7 +133,8 @@ bound-end notes r i =
     )
 
 -- up to any line
-pub bound-after : (slow : ℕ) (files : List (List EventView)) (events : List EventView)
-    → Bound (all_notes slow files ++ notes_of (run_after_files (run_start slow) files) events) (run_after (run_after_files (run_start slow) files) events)
-bound-after slow = up-to-line (λ n. Bound) (λ n. Bound) (λ e. 0) (λ n notes r i. i) (λ n notes r e i. bound-line notes r e i)
-    (λ n notes r i. bound-end notes r i) slow (omega arith)
+pub bound-after : (settings : RunSettings) (files : List (List EventView)) (events : List EventView)
+    → Bound (all_notes settings files ++ notes_of (run_after_files (run_start settings) files) events)
+    (run_after (run_after_files (run_start settings) files) events)
+bound-after settings = up-to-line (λ n. Bound) (λ n. Bound) (λ e. 0) (λ n notes r i. i) (λ n notes r e i. bound-line notes r e i)
+    (λ n notes r i. bound-end notes r i) settings (omega arith)

@@ -14,7 +14,7 @@ use Rattle.test_report_forms.specs.List.{flaky_word, listed_word, passed_word}
 use Rattle.test_report_forms.specs.Shown.{and_space, bracket, name_and_space, seconds, three_digits}
 use Rattle.test_report_forms.specs.Text.{attempts_note}
 use Rattle.test_report_forms.specs.Title.{title, title_name}
-use Rattle.test_report_forms.specs.Words.{command_words, disagreement_line, failed_numbers, failed_word, finished_numbers, its_tests, key_and_verdict, not_run_line, other_numbers, outcome_word, passed_numbers, result_word, run_numbers, said_numbers, said_text, slow_number, summary_line, verdict_word}
+use Rattle.test_report_forms.specs.Words.{command_words, disagreement_line, failed_numbers, failed_word, finished_numbers, input_words, its_tests, key_and_verdict, not_run_line, other_numbers, outcome_word, passed_numbers, result_word, run_numbers, said_numbers, said_text, slow_number, summary_line, verdict_word}
 
 -- times
 clean-three : (n : ℕ) → CleanLine (three_digits n)
@@ -110,6 +110,11 @@ clean-command (BySignal number) = also (word (codes "ended by signal ") refl) (c
 clean-command (WithStatus code) =
     also (word (codes "ended with status ") refl) (also (clean-decimal code) (word (codes ", and no line says why") refl))
 
+clean-input : (file : Option (List ℕ)) → CleanLine (input_words file)
+unfolding input_words
+clean-input None = word (codes "the input") refl
+clean-input (Some file) = clean-name file
+
 pub clean-disagreement : (d : DisagreementView) → CleanLine (disagreement_line d)
 unfolding disagreement_line key_and_verdict
 clean-disagreement (EndsEarly suite) = also (clean-name suite) (word (codes " ended early") refl)
@@ -121,7 +126,7 @@ clean-disagreement (StraySuiteEnds key failed) =
 clean-disagreement (StartsOutside n) = also (clean-decimal n) (word (codes " tests started outside of a suite") refl)
 clean-disagreement (CargoSays report) = also (word (codes "cargo: ") refl) (clean-line report.line)
 clean-disagreement (IsDamaged text) = also (word (codes "a damaged line says that a test or a suite failed: ") refl) (clean-line text)
-clean-disagreement HasNoEvent = word (codes "no line of the input is of a test run") refl
+clean-disagreement (HasNoEvent file) = also (word (codes "no line of ") refl) (also (clean-input file) (word (codes " is of a test run") refl))
 clean-disagreement (CommandFails end) = also (word (codes "the command ") refl) (clean-command end)
 
 pub clean-not_run : (suite : List ℕ) (n of : ℕ) → CleanLine (not_run_line suite n of)

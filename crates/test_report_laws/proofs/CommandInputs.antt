@@ -1,5 +1,5 @@
 -- The commands whose output was read, in a run in which nothing is wrong.
-use Rattle.std.proofs.Common.{◌≡◌, ◌∙◌, ◌++◌, ℕ, List, [], ◌∷◌, Option, Some, None, IfSome, ap, append_assoc, refl, subst, sym}
+use Rattle.std.proofs.Common.{◌≡◌, ◌∙◌, ◌++◌, List, [], ◌∷◌, Option, Some, None, IfSome, ap, append_assoc, refl, subst, sym}
 use Rattle.std.specs.List.{All, AllZip}
 use Rattle.std.proofs.lemmas.Grind.{flat_map-append}
 use Rattle.std.proofs.lemmas.List.Elements.{All-cons, All-nil}
@@ -10,7 +10,7 @@ use Rattle.test_report_laws.proofs.SameRun.{in-order}
 use Rattle.test_report_laws.specs.Report.{HasEndedWell, HasEvents}
 use Rattle.test_report_laws.specs.Status.{IsInOrder}
 use Rattle.test_report_laws.specs.Whole.{IsFileEndOf, run_after, run_after_files}
-use Rattle.test_report_run.specs.Run.{RunState, after, run_start}
+use Rattle.test_report_run.specs.Run.{RunSettings, RunState, after, run_start}
 
 -- the last event of the output of a command is its end
 last-event : (input : InputView) (file : List EventView) (end : CommandView) (has : HasEvents input file) → input.command ≡ Some end
@@ -32,7 +32,7 @@ command-of first input file end has is =
     ap (λ (f : List EventView). (run_after first f).command) (last-event input file end has is)
     ∙ ap (λ (x : RunState). x.command) (fold-append after first lines (CommandOver end ∷ []))
 
-module _ (slow : ℕ) (files : List (List EventView)) (order : IsInOrder slow files) where
+module _ (settings : RunSettings) (files : List (List EventView)) (order : IsInOrder settings files) where
   abbrev IsWell : CommandView → Type 0
   IsWell end = end ≡ WithStatus 0
 
@@ -43,8 +43,8 @@ module _ (slow : ℕ) (files : List (List EventView)) (order : IsInOrder slow fi
       by-command : (o : Option CommandView) → input.command ≡ o → IfSome o IsWell
       by-command None none = tt
       by-command (Some end) some =
-          let first = run_after_files (run_start slow) before in
-          let at : IsFileEndOf slow files (run_after first file) = record { before = before; file = file; after = after; are = is; run_is = refl } in
+          let first = run_after_files (run_start settings) before in
+          let at : IsFileEndOf settings files (run_after first file) = record { before = before; file = file; after = after; are = is; run_is = refl } in
           subst (λ (o : Option CommandView). IfSome o IsWell) (command-of first input file end has some) (order.commands (run_after first file) at)
 
   pub all-ended : (before : List (List EventView)) (inputs : List InputView) (rest : List (List EventView)) → files ≡ before ++ rest

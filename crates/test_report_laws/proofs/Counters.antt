@@ -21,7 +21,7 @@ use Rattle.test_report_run.specs.Running.{RunningView}
 use Rattle.test_report_run.specs.Ended.{after_end, after_flaky, end_notes, starts_later, timed}
 use Rattle.test_report_run.specs.Others.{OthersView}
 use Rattle.test_report_run.specs.Over.{bare_failure, crash_again, crash_of, crashed_notes, early_notes, early_state, failed_note, failed_notes, flaky_outcome, last_state, lost, one_failed, one_flaky, rest_of, skipped_note, with_all_flaky, with_failed}
-use Rattle.test_report_run.specs.Run.{with_note}
+use Rattle.test_report_run.specs.Run.{RunSettings, with_note}
 use Rattle.test_report_run.specs.Totals.{no_suites, with_suite}
 use Rattle.test_report_laws.specs.Whole.{all_notes}
 use Rattle.test_report_run.specs.Suite.{FlakyView, OverView, SuiteState, with_finish}
@@ -224,14 +224,14 @@ module _ (counter : RunStats → ℕ) (rule : OutcomeView → ℕ → Bool → �
   }
 
   -- the notes of suites sum up to what the notes of tests count, and so do the sums of a run
-  pub sums-up : (slow : ℕ) (files : List (List EventView))
-      → sum_by (of_test rule) (all_notes slow files) ≡ sum_by (of_suite (λ s. counter s.stats)) (all_notes slow files)
-  sums-up slow files = let sums = (holds-whole counter-rules slow files).whole in omega (arith, sums.high refl)
+  pub sums-up : (settings : RunSettings) (files : List (List EventView))
+      → sum_by (of_test rule) (all_notes settings files) ≡ sum_by (of_suite (λ s. counter s.stats)) (all_notes settings files)
+  sums-up settings files = let sums = (holds-whole counter-rules settings files).whole in omega (arith, sums.high refl)
 
-  pub total : ((a b : RunStats) → counter (sum_of a b) ≡ counter a + counter b) → (slow : ℕ) (files : List (List EventView))
-      → counter (fold with_note no_suites (all_notes slow files)).stats ≡ sum_by (of_test rule) (all_notes slow files)
-  total adds slow files = omega (
+  pub total : ((a b : RunStats) → counter (sum_of a b) ≡ counter a + counter b) → (settings : RunSettings) (files : List (List EventView))
+      → counter (fold with_note no_suites (all_notes settings files)).stats ≡ sum_by (of_test rule) (all_notes settings files)
+  total adds settings files = omega (
     arith,
-    sums-up slow files,
-    sum-of (λ e. counter e.stats) (λ s. counter s.stats) (λ e s. adds e.stats s.stats) empty (all_notes slow files),
+    sums-up settings files,
+    sum-of (λ e. counter e.stats) (λ s. counter s.stats) (λ e s. adds e.stats s.stats) empty (all_notes settings files),
   )

@@ -9,7 +9,7 @@ use Rattle.test_report_laws.proofs.OverRuns.{over-run}
 use Rattle.test_report_laws.proofs.RunCauses.{causes-of, weight}
 use Rattle.test_report_laws.specs.Run.{DamagedLineShows, IsClean, damaged_lines_of, is_damaged}
 use Rattle.test_report_run.specs.FileEnd.{file_notes}
-use Rattle.test_report_run.specs.Run.{RunState, after, is_cause, notes_at}
+use Rattle.test_report_run.specs.Run.{RunSettings, RunState, after, is_cause, notes_at}
 use Rattle.test_report_laws.specs.Whole.{all_notes}
 
 abbrev damage : EventView → ℕ
@@ -24,14 +24,22 @@ shown-line : (n : ℕ) (notes : List NoteView) (r : RunState) (e : EventView) �
 shown-line n notes r (DamagedLine text) i = omega (arith, i, sum_by-append weight notes (notes_at r (DamagedLine text)))
 shown-line n notes r e i = omega (arith, i, sum_by-append weight notes (notes_at r e))
 
-pub lines-shown : (slow : ℕ) (files : List (List EventView)) → damaged_lines_of files ≤ count_by is_cause (all_notes slow files)
-lines-shown slow = over-run AreShown AreShown damage (λ n notes r i. i) shown-line
-    (λ n notes r i. omega (arith, i, sum_by-append weight notes (file_notes r))) slow (omega arith)
+pub lines-shown : (settings : RunSettings) (files : List (List EventView)) → damaged_lines_of files ≤ count_by is_cause (all_notes settings files)
+lines-shown settings = over-run AreShown AreShown damage (λ n notes r i. i) shown-line
+    (λ n notes r i. omega (arith, i, sum_by-append weight notes (file_notes r))) settings (omega arith)
 
-unclean : (slow : ℕ) (files : List (List EventView)) → 0 < damaged_lines_of files → IsClean (all_notes slow files) → ⊥
-unclean slow files some clean = omega (arith, some, lines-shown slow files, causes-of (all_notes slow files), clean.none_failed, clean.none_disagree)
+unclean : (settings : RunSettings) (files : List (List EventView)) → 0 < damaged_lines_of files → IsClean (all_notes settings files) → ⊥
+unclean settings files some clean = omega (
+  arith,
+  some,
+  lines-shown settings files,
+  causes-of
+      (all_notes settings files),
+  clean.none_failed,
+  clean.none_disagree,
+)
 
 pub damage-shows : DamagedLineShows
-damage-shows slow files some =
-    let means = outcome-means slow files in
-    ((λ h. unclean slow files some (means.success.0 h).0), (λ h. unclean slow files some (means.no_tests.0 h).0))
+damage-shows settings files some =
+    let means = outcome-means settings files in
+    ((λ h. unclean settings files some (means.success.0 h).0), (λ h. unclean settings files some (means.no_tests.0 h).0))

@@ -9,7 +9,7 @@ use Rattle.test_report_laws.proofs.Sums.{one-most}
 use Rattle.test_report_laws.proofs.ToldFailures.{no-failure, one-failure, told}
 use Rattle.test_report_laws.specs.Run.{FailedLineShows, FailedLinesAreTold, IsClean, failed_in, failed_lines_of, fails_as_told, is_test, is_told, is_told_failure, says_failed}
 use Rattle.test_report_run.specs.FileEnd.{file_notes}
-use Rattle.test_report_run.specs.Run.{RunState, has_failed, notes_at}
+use Rattle.test_report_run.specs.Run.{RunSettings, RunState, has_failed, notes_at}
 use Rattle.test_report_laws.specs.Whole.{all_notes}
 
 -- a failed test for each of them
@@ -17,9 +17,9 @@ abbrev AreTold : ℕ → List NoteView → RunState → Type 0
 AreTold n notes r = told notes ≡ n
 
 pub lines-told : FailedLinesAreTold
-lines-told slow = over-run AreTold AreTold (λ e. cond (says_failed e) 1 0) (λ n notes r i. i)
+lines-told settings = over-run AreTold AreTold (λ e. cond (says_failed e) 1 0) (λ n notes r i. i)
     (λ n notes r e i. omega (arith, i, one-failure r e, sum_by-append (λ x. cond (is_told_failure x) 1 0) notes (notes_at r e)))
-    (λ n notes r i. omega (arith, i, no-failure r, sum_by-append (λ x. cond (is_told_failure x) 1 0) notes (file_notes r))) slow refl
+    (λ n notes r i. omega (arith, i, no-failure r, sum_by-append (λ x. cond (is_told_failure x) 1 0) notes (file_notes r))) settings refl
 
 -- such a test failed
 told-outcome : (o : OutcomeView) → cond (fails_as_told o) 1 0 ≤ cond (has_failed o) 1 0
@@ -33,10 +33,10 @@ told-note note = omega arith
 pub told-failed : (notes : List NoteView) → told notes ≤ failed_in notes
 told-failed notes = sum_by-le-sum_by (λ x. cond (is_told_failure x) 1 0) (λ x. cond (is_test (λ t. has_failed t.outcome) x) 1 0) notes told-note
 
-unclean : (slow : ℕ) (files : List (List EventView)) → 0 < failed_lines_of files → IsClean (all_notes slow files) → ⊥
-unclean slow files some clean = omega (arith, clean.none_failed, told-failed (all_notes slow files), lines-told slow files)
+unclean : (settings : RunSettings) (files : List (List EventView)) → 0 < failed_lines_of files → IsClean (all_notes settings files) → ⊥
+unclean settings files some clean = omega (arith, clean.none_failed, told-failed (all_notes settings files), lines-told settings files)
 
 pub line-shows : FailedLineShows
-line-shows slow files some =
-    let means = outcome-means slow files in
-    ((λ h. unclean slow files some (means.success.0 h).0), (λ h. unclean slow files some (means.no_tests.0 h).0))
+line-shows settings files some =
+    let means = outcome-means settings files in
+    ((λ h. unclean settings files some (means.success.0 h).0), (λ h. unclean settings files some (means.no_tests.0 h).0))

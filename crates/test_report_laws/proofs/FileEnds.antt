@@ -8,7 +8,7 @@ use Rattle.test_report_events.specs.Event.{CommandView}
 use Rattle.test_report_run_notes.specs.Note.{CommandFails, DisagreementView, Disagrees, HasNoEvent, NoteView, ended_well, was_not_started}
 use Rattle.test_report_laws.proofs.CargoReports.{only-told, reports-none}
 use Rattle.test_report_laws.proofs.Sums.{sum-if-none}
-use Rattle.test_report_run.specs.FileEnd.{all_ended_early, command_fails, command_notes, file_end, file_notes, no_event_notes, reports_told}
+use Rattle.test_report_run.specs.FileEnd.{all_ended_early, command_fails, command_notes, file_end, file_name, file_notes, no_event_notes, reports_told}
 use Rattle.test_report_run.specs.Run.{RunState, Step, learned}
 
 -- the run when its failures of cargo are known, what its suites make known then, and the run when all of this is counted
@@ -37,7 +37,7 @@ module _ (w : NoteView → ℕ) where
     pub no-event-none : (r : RunState) → sum_by w (no_event_notes r) ≡ 0
     no-event-none r = sum-if-none w
         (not r.has_event && (not (nat_lt r.causes_at_file r.causes) && not (ended_well r.command || was_not_started r.command)))
-        (Disagrees HasNoEvent) (disagree HasNoEvent)
+        (Disagrees (HasNoEvent (file_name r))) (disagree (HasNoEvent (file_name r)))
 
     pub command-none : (r : RunState) → sum_by w (command_notes r) ≡ 0
     command-none r = by-end r.command

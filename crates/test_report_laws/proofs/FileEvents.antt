@@ -18,8 +18,8 @@ use Rattle.test_report_laws.proofs.RunCauses.{causes-of, weight}
 use Rattle.test_report_laws.specs.Run.{CommandEndShows, IsClean, NoEventShows, events_in}
 use Rattle.test_report_run.specs.Events.{is_event}
 use Rattle.test_report_laws.specs.Whole.{IsFileEndOf, all_notes, notes_of, run_after, run_after_file, run_after_files}
-use Rattle.test_report_run.specs.FileEnd.{command_fails, file_notes, reports_told}
-use Rattle.test_report_run.specs.Run.{RunState, after, is_cause, run_start, told}
+use Rattle.test_report_run.specs.FileEnd.{command_fails, file_name, file_notes, reports_told}
+use Rattle.test_report_run.specs.Run.{RunSettings, RunState, after, is_cause, run_start, told}
 
 -- lines that are no events of a harness
 none-told : (r : RunState) (e : EventView) → is_event e ≡ false → (told r e).run.has_event ≡ r.has_event
@@ -66,17 +66,18 @@ none-between r [] is = is
 none-between r (file ∷ files) is = none-between (run_after_file r file) files refl
 
 -- a file without events, in which nothing failed or disagreed, disagrees
-one-if-silent : (has : Bool) (before now : ℕ) (command : Option CommandView) → has ≡ false → now ≡ 0 → command ≡ None
-    → sum_by weight (if not has && (not (nat_lt before now) && not (ended_well command || was_not_started command)) then Disagrees HasNoEvent ∷ [] else []) ≡ 1
-one-if-silent has before now None none zero is = grind (arith, nat_tests, none, zero)
-one-if-silent has before now (Some end) none zero is = absurd (cc)
+one-if-silent : (has : Bool) (before now : ℕ) (command : Option CommandView) (file : Option (List ℕ)) → has ≡ false → now ≡ 0 → command ≡ None
+    → sum_by weight (if not has && (not (nat_lt before now) && not (ended_well command || was_not_started command))
+    then Disagrees (HasNoEvent file) ∷ [] else []) ≡ 1
+one-if-silent has before now None file none zero is = grind (arith, nat_tests, none, zero)
+one-if-silent has before now (Some end) file none zero is = absurd (cc)
 
 silent-cause : (r : RunState) → r.has_event ≡ false → r.command ≡ None → (reported_run r).causes ≡ 0 → 0 < count_by is_cause (file_notes r)
 silent-cause r none alone zero =
     let over = (suites_over r).run in
     let told = (only-told r).run_is in
     let same = aside-early (reported_run r) in
-    let one = one-if-silent over.has_event over.causes_at_file over.causes over.command
+    let one = one-if-silent over.has_event over.causes_at_file over.causes over.command (file_name over)
     (ap (λ (x : RunState). x.has_event) same ∙ (ap (λ (x : RunState). x.has_event) told ∙ none)) (ap (λ (x : RunState). x.causes) same ∙ zero)
     (ap (λ (x : RunState). x.command) same ∙ (ap (λ (x : RunState). x.command) told ∙ alone)) in
     omega (arith, one, end-parts weight r)
@@ -118,14 +119,14 @@ command-cause r end is other zero = elim (cases_lt 0 (count_by is_cause (file_no
       omega (arith, one, end-parts weight r)
 ]
 
-module _ (slow : ℕ) (files : List (List EventView)) (clean : IsClean (all_notes slow files)) where
+module _ (settings : RunSettings) (files : List (List EventView)) (clean : IsClean (all_notes settings files)) where
   -- nothing is known, so there are no causes
-  no-causes : (r : RunState) (end : IsFileEndOf slow files r) → ((reported_run r).causes ≡ 0) × (count_by is_cause (file_notes r) ≡ 0)
+  no-causes : (r : RunState) (end : IsFileEndOf settings files r) → ((reported_run r).causes ≡ 0) × (count_by is_cause (file_notes r) ≡ 0)
   no-causes r end =
-      let known = all_notes slow end.before ++ notes_of (run_after_files (run_start slow) end.before) end.file in
-      let bound : Bound known r = subst (Bound known) (sym end.run_is) (bound-after slow end.before end.file) in
-      let weighs = file-weighs weight slow files r end in
-      let none = causes-of (all_notes slow files) in (
+      let known = all_notes settings end.before ++ notes_of (run_after_files (run_start settings) end.before) end.file in
+      let bound : Bound known r = subst (Bound known) (sym end.run_is) (bound-after settings end.before end.file) in
+      let weighs = file-weighs weight settings files r end in
+      let none = causes-of (all_notes settings files) in (
         omega (
           arith,
           bound-told known r bound,
@@ -140,18 +141,18 @@ module _ (slow : ℕ) (files : List (List EventView)) (clean : IsClean (all_note
         omega (arith, weighs, none, clean.none_failed, clean.none_disagree),
       )
 
-  pub file-event : (r : RunState) (end : IsFileEndOf slow files r) → r.command ≡ None → 0 < events_in end.file
+  pub file-event : (r : RunState) (end : IsFileEndOf settings files r) → r.command ≡ None → 0 < events_in end.file
   file-event r end alone = elim (cases_lt 0 (events_in end.file)) [
     | inl some ↦ some
     | inr few ↦
-        let first = run_after_files (run_start slow) end.before in
+        let first = run_after_files (run_start settings) end.before in
         let none : r.has_event ≡ false = ap (λ (x : RunState). x.has_event) end.run_is
-        ∙ none-in first end.file (omega (arith, few)) (none-between (run_start slow) end.before refl) in
+        ∙ none-in first end.file (omega (arith, few)) (none-between (run_start settings) end.before refl) in
         let quiet = no-causes r end in
         absurd (omega (arith, silent-cause r none alone quiet.0, quiet.1))
   ]
 
-  pub no-command-fails : (r : RunState) → IsFileEndOf slow files r → (end : CommandView) → r.command ≡ Some end → end ≢ WithStatus 0 → ⊥
+  pub no-command-fails : (r : RunState) → IsFileEndOf settings files r → (end : CommandView) → r.command ≡ Some end → end ≢ WithStatus 0 → ⊥
   no-command-fails r at end is other = let quiet = no-causes r at in omega (arith, command-cause r end is other quiet.0, quiet.1)
 
   ended-as : (end : CommandView) → (end ≢ WithStatus 0 → ⊥) → end ≡ WithStatus 0
@@ -162,7 +163,7 @@ module _ (slow : ℕ) (files : List (List EventView)) (clean : IsClean (all_note
     | inr none ↦ ap WithStatus (omega (arith, none))
   ]
 
-  pub ended-well : (r : RunState) → IsFileEndOf slow files r → IfSome r.command (λ end. end ≡ WithStatus 0)
+  pub ended-well : (r : RunState) → IsFileEndOf settings files r → IfSome r.command (λ end. end ≡ WithStatus 0)
   ended-well r at = by-end r.command refl
     where
       by-end : (o : Option CommandView) → r.command ≡ o → IfSome o (λ end. end ≡ WithStatus 0)
@@ -170,14 +171,14 @@ module _ (slow : ℕ) (files : List (List EventView)) (clean : IsClean (all_note
       by-end (Some end) is = ended-as end (λ other. no-command-fails r at end is other)
 
 pub no-event-shows : NoEventShows
-no-event-shows slow files r end none alone =
-    let means = outcome-means slow files in
-    let never : IsClean (all_notes slow files) → ⊥ = λ clean. omega (arith, file-event slow files clean r end alone, none) in
+no-event-shows settings files r end none alone =
+    let means = outcome-means settings files in
+    let never : IsClean (all_notes settings files) → ⊥ = λ clean. omega (arith, file-event settings files clean r end alone, none) in
     ((λ h. never (means.success.0 h).0), (λ h. never (means.no_tests.0 h).0))
 
 pub command-shows : CommandEndShows
-command-shows slow files r at end is other =
-    let means = outcome-means slow files in (
-      (λ h. no-command-fails slow files (means.success.0 h).0 r at end is other),
-      (λ h. no-command-fails slow files (means.no_tests.0 h).0 r at end is other),
+command-shows settings files r at end is other =
+    let means = outcome-means settings files in (
+      (λ h. no-command-fails settings files (means.success.0 h).0 r at end is other),
+      (λ h. no-command-fails settings files (means.no_tests.0 h).0 r at end is other),
     )

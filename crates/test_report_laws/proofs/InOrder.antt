@@ -26,47 +26,49 @@ use Rattle.test_report_laws.proofs.Verdicts.{early-cause, end-causes, outside-ca
 use Rattle.test_report_laws.proofs.Weights.{all-numbered, has-number, numbered-ready, unnumbered, weight_of}
 use Rattle.test_report_laws.specs.Run.{Agrees, IsClean, IsSound, failed_in, failed_verdicts_of, is_test, not_run_of, passed_in}
 use Rattle.test_report_run.specs.Over.{last_notes}
-use Rattle.test_report_run.specs.Run.{RunState, counts_tests, ended_at, has_failed, is_cause, is_disagreement, tests_in, notes_at, open_suite, opened, run_start, settled_at, started_again, step, stray_suite_notes, suite_at, told, with_suite_at, without_tests}
+use Rattle.test_report_run.specs.Run.{RunSettings, RunState, counts_tests, ended_at, has_failed, is_cause, is_disagreement, notes_at, open_suite, opened, run_start, settled_at, started_again, step, stray_suite_notes, suite_at, tests_in, told, with_suite_at, without_tests}
 use Rattle.test_report_run.specs.Said.{numbers_of}
 use Rattle.test_report_laws.specs.Status.{EndsInOrder, IsInOrder, SuccessIsInOrder}
 use Rattle.test_report_run.specs.Suite.{SuiteState, cancelled_by, has_key, with_line}
 use Rattle.test_report_laws.specs.Whole.{IsLineOf, all_notes, notes_of, run_after, run_after_files}
 
-module _ (slow : ℕ) (files : List (List EventView)) (clean : IsClean (all_notes slow files)) where
-  no-cause : count_by is_cause (all_notes slow files) ≡ 0
-  no-cause = omega (arith, causes-of (all_notes slow files), clean.none_failed, clean.none_disagree)
+module _ (settings : RunSettings) (files : List (List EventView)) (clean : IsClean (all_notes settings files)) where
+  no-cause : count_by is_cause (all_notes settings files) ≡ 0
+  no-cause = omega (arith, causes-of (all_notes settings files), clean.none_failed, clean.none_disagree)
 
-  numbered : (r : RunState) (before : List (List EventView)) (lines : List EventView) → r ≡ run_after (run_after_files (run_start slow) before) lines
+  numbered : (r : RunState) (before : List (List EventView)) (lines : List EventView) → r ≡ run_after (run_after_files (run_start settings) before) lines
       → weight_of unnumbered r ≡ 0
-  numbered r before lines is = ap (weight_of unnumbered) is ∙ all-numbered slow before lines
+  numbered r before lines is = ap (weight_of unnumbered) is ∙ all-numbered settings before lines
 
   -- a weight of what is known before a line is one of what is known at the end, and so is what the line makes known
-  known-before : (w : NoteView → ℕ) (r : RunState) (e : EventView) (line : IsLineOf slow files r e)
-      → sum_by w (all_notes slow line.before ++ notes_of (run_after_files (run_start slow) line.before) line.lines) ≤ sum_by w (all_notes slow files)
+  known-before : (w : NoteView → ℕ) (r : RunState) (e : EventView) (line : IsLineOf settings files r e)
+      → sum_by w (all_notes settings line.before ++ notes_of (run_after_files (run_start settings) line.before) line.lines) ≤ sum_by w
+      (all_notes settings files)
   known-before w r e line =
-      let lines = notes_of (run_after_files (run_start slow) line.before) line.lines in
+      let lines = notes_of (run_after_files (run_start settings) line.before) line.lines in
       omega (
         arith,
-        line-weighs w slow files r e line,
-        sum_by-append w (all_notes slow line.before) lines,
-        sum_by-append w (all_notes slow line.before) (lines ++ notes_at r e),
+        line-weighs w settings files r e line,
+        sum_by-append w (all_notes settings line.before) lines,
+        sum_by-append w (all_notes settings line.before) (lines ++ notes_at r e),
         sum_by-append w lines (notes_at r e),
       )
 
-  known-by : (w : NoteView → ℕ) (r : RunState) (e : EventView) → IsLineOf slow files r e → sum_by w (notes_at r e) ≤ sum_by w (all_notes slow files)
+  known-by : (w : NoteView → ℕ) (r : RunState) (e : EventView) → IsLineOf settings files r e → sum_by w (notes_at r e) ≤ sum_by w (all_notes settings files)
   known-by w r e line =
-      let lines = notes_of (run_after_files (run_start slow) line.before) line.lines in
+      let lines = notes_of (run_after_files (run_start settings) line.before) line.lines in
       omega (
         arith,
-        line-weighs w slow files r e line,
-        sum_by-append w (all_notes slow line.before) (lines ++ notes_at r e),
+        line-weighs w settings files r e line,
+        sum_by-append w (all_notes settings line.before) (lines ++ notes_at r e),
         sum_by-append w lines (notes_at r e),
       )
 
-  own-by : (w : NoteView → ℕ) (r : RunState) (e : EventView) → IsLineOf slow files r e → sum_by w (told (ready r e) e).notes ≤ sum_by w (all_notes slow files)
+  own-by : (w : NoteView → ℕ) (r : RunState) (e : EventView) → IsLineOf settings files r e
+      → sum_by w (told (ready r e) e).notes ≤ sum_by w (all_notes settings files)
   own-by w r e line = omega (arith, known-by w r e line, sum_by-append w (settled_at r e).notes (told (ready r e) e).notes)
 
-  clean-line : (r : RunState) (e : EventView) → IsLineOf slow files r e → IsClean (told (ready r e) e).notes
+  clean-line : (r : RunState) (e : EventView) → IsLineOf settings files r e → IsClean (told (ready r e) e).notes
   clean-line r e line = record {
     none_failed = omega (arith, clean.none_failed, own-by (λ x. cond (is_test (λ t. has_failed t.outcome) x) 1 0) r e line);
     none_disagree = omega (arith, clean.none_disagree, own-by (λ x. cond (is_disagreement x) 1 0) r e line);
@@ -92,7 +94,7 @@ module _ (slow : ℕ) (files : List (List EventView)) (clean : IsClean (all_note
       ap (λ (x : RunState). (told x (SuiteEnds e)).notes) only.run_is
       ∙ over-notes (with_reports r only.reported only.held only.causes) e at is over
 
-  ends-well : (r : RunState) (e : SuiteEndView) (at : ℕ) → IsLineOf slow files r (SuiteEnds e) → open_suite r e.key ≡ Some at
+  ends-well : (r : RunState) (e : SuiteEndView) (at : ℕ) → IsLineOf settings files r (SuiteEnds e) → open_suite r e.key ≡ Some at
       → (with_line (suite_at r (Some at)) e).open_lines ≡ 0
       → EndsInOrder (cancelled_by r.cancel (with_line (suite_at r (Some at)) e)) (tests_in r (with_line (suite_at r (Some at)) e))
   ends-well r e at line is over =
@@ -102,13 +104,13 @@ module _ (slow : ℕ) (files : List (List EventView)) (clean : IsClean (all_note
       let now : IsClean (last_notes (cancelled_by r.cancel s) tests) = subst IsClean (own-notes r e at is over) (clean-line r (SuiteEnds e) line) in
       let in' : at < length r.suites = position-in (has_key e.key) r.suites (Some at) is in
       let some : s.number ≢ None = has-number r at (numbered r line.before line.lines line.run_is) in' in
-      let sound = All-get_or IsSound r.suites at r.outside in' (suites-sound slow line.before line.lines r line.run_is).1 in
+      let sound = All-get_or IsSound r.suites at r.outside in' (suites-sound settings line.before line.lines r line.run_is).1 in
       let agrees = (last-agrees (cancelled_by r.cancel s) tests some record { retried = sound.retried; passed = sound.passed }).0 now.none_disagree in
       let none : failed_of s.stats + failed_in (last_notes (cancelled_by r.cancel s) tests) ≡ 0 = omega (
         arith,
         now.none_failed,
         clean.none_failed,
-        failures-known slow line.before line.lines r line.run_is at r.outside in',
+        failures-known settings line.before line.lines r line.run_is at r.outside in',
         known-before (λ x. cond (is_test (λ t. has_failed t.outcome) x) 1 0) r (SuiteEnds e) line,
       ) in
       record {
@@ -139,14 +141,14 @@ module _ (slow : ℕ) (files : List (List EventView)) (clean : IsClean (all_note
     | inr none ↦ omega arith
   ]
 
-  pub in-order : IsInOrder slow files
+  pub in-order : IsInOrder settings files
   in-order = record {
     clean = clean;
-    no_failed_line = omega (arith, clean.none_failed, told-failed (all_notes slow files), lines-told slow files);
-    no_failed_verdict = zero-or-absurd (failed_verdicts_of files) (λ some. unclean slow files some clean);
-    no_damaged_line = omega (arith, lines-shown slow files, no-cause);
-    commands = ended-well slow files clean;
-    events = file-event slow files clean;
+    no_failed_line = omega (arith, clean.none_failed, told-failed (all_notes settings files), lines-told settings files);
+    no_failed_verdict = zero-or-absurd (failed_verdicts_of files) (λ some. unclean settings files some clean);
+    no_damaged_line = omega (arith, lines-shown settings files, no-cause);
+    commands = ended-well settings files clean;
+    events = file-event settings files clean;
     last_lines = ends-well;
     stray_lines = λ r e line closed.
         let place = ap (λ (x : RunState). open_suite x e.key) (only-settled_at r (SuiteEnds e)).run_is in
@@ -157,17 +159,17 @@ module _ (slow : ℕ) (files : List (List EventView)) (clean : IsClean (all_note
         let fine = numbered-ready r e (numbered r line.before line.lines line.run_is) in
         sym place ∙ none-ends (ready r e) count (open_suite (ready r e) None) refl fine (omega (arith, own-by weight r e line, no-cause));
     none_open = λ r end.
-        nothing-in r.suites (omega (arith, no-cause, end-weighs weight slow files r end, end-causes r (numbered r end.before end.file end.run_is)));
+        nothing-in r.suites (omega (arith, no-cause, end-weighs weight settings files r end, end-causes r (numbered r end.before end.file end.run_is)));
     none_outside = λ r end. zero-or-absurd r.outside.started
-        (λ some. absurd (omega (arith, no-cause, end-weighs weight slow files r end, outside-cause r some)));
-    announced = omega (arith, announced-counted slow files, (totals-count slow files).not_run, clean.all_run);
+        (λ some. absurd (omega (arith, no-cause, end-weighs weight settings files r end, outside-cause r some)));
+    announced = omega (arith, announced-counted settings files, (totals-count settings files).not_run, clean.all_run);
     cargo = λ r f line plain at never none.
-        absurd (omega (arith, cargo-shows slow files r f line plain at none never, clean.none_failed, clean.none_disagree));
+        absurd (omega (arith, cargo-shows settings files r f line plain at none never, clean.none_failed, clean.none_disagree));
   }
 
 pub success-in-order : SuccessIsInOrder
-success-in-order slow files =
-    let means = outcome-means slow files in (
-      (λ h. let m = means.success.0 h in (m.1, in-order slow files m.0)),
-      (λ h. let m = means.no_tests.0 h in (m.1, in-order slow files m.0)),
+success-in-order settings files =
+    let means = outcome-means settings files in (
+      (λ h. let m = means.success.0 h in (m.1, in-order settings files m.0)),
+      (λ h. let m = means.no_tests.0 h in (m.1, in-order settings files m.0)),
     )

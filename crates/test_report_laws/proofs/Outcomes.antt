@@ -18,7 +18,7 @@ use Rattle.test_report_laws.proofs.Counters.{of_suite, of_test, sums-up, with_ou
 use Rattle.test_report_laws.proofs.Sums.{sum-none}
 use Rattle.test_report_laws.proofs.Tallies.{counted, failed-total, run-sums}
 use Rattle.test_report_laws.specs.Run.{Counts, IsClean, Means, OutcomeMeans, disagreements_in, failed_in, not_run_in}
-use Rattle.test_report_run.specs.Run.{run_start, with_note}
+use Rattle.test_report_run.specs.Run.{RunSettings, run_start, with_note}
 use Rattle.test_report_run.specs.Totals.{no_suites, suite_outcome, with_suite}
 use Rattle.test_report_laws.specs.Whole.{all_notes, run_after_files}
 
@@ -49,10 +49,10 @@ none-of (TestIs t) = refl
 none-of (FlakyEnds t) = refl
 none-of note = refl
 
-no-scripts : (slow : ℕ) (files : List (List EventView)) → sum_by (of_suite (λ s. scripts_of s.stats)) (all_notes slow files) ≡ 0
-no-scripts slow files =
-    let sums = sums-up scripts_of (λ o n slow. 0) refl scripts-counts (λ output n slow h. refl) (λ reason n slow. refl) slow files in
-    omega (arith, sum-none (of_test (λ o n slow. 0)) none-of (all_notes slow files))
+no-scripts : (settings : RunSettings) (files : List (List EventView)) → sum_by (of_suite (λ s. scripts_of s.stats)) (all_notes settings files) ≡ 0
+no-scripts settings files =
+    let sums = sums-up scripts_of (λ o n slow. 0) refl scripts-counts (λ output n slow h. refl) (λ reason n slow. refl) settings files in
+    omega (arith, sum-none (of_test (λ o n slow. 0)) none-of (all_notes settings files))
 
 -- the outcome of one suite
 not-cancelled : (why : Option CancelReason) → is_cancelled why ≡ 0 → why ≡ None
@@ -82,8 +82,8 @@ outcome-fold e (note ∷ notes) none is =
     each (SuiteIs s) h = outcome-step e s h is
     each note h = is
 
-outcome-of-sums : (slow : ℕ) (files : List (List EventView)) → IsOf (fold with_note no_suites (all_notes slow files))
-outcome-of-sums slow files = outcome-fold no_suites (all_notes slow files) (no-scripts slow files) refl
+outcome-of-sums : (settings : RunSettings) (files : List (List EventView)) → IsOf (fold with_note no_suites (all_notes settings files))
+outcome-of-sums settings files = outcome-fold no_suites (all_notes settings files) (no-scripts settings files) refl
 
 -- what an outcome says
 abbrev end_outcome : (disagree failed not_run none : Bool) → RunOutcome
@@ -132,11 +132,11 @@ ending-outcome e true = refl
 ending-outcome e false = refl
 
 pub outcome-means : OutcomeMeans
-outcome-means slow files =
-    let notes = all_notes slow files in
-    let r = run_after_files (run_start slow) files in
+outcome-means settings files =
+    let notes = all_notes settings files in
+    let r = run_after_files (run_start settings) files in
     let e = fold with_note no_suites notes in
     let is = ending-outcome r.totals (nat_lt 0 r.disagreements)
-    ∙ (ap (λ s. if nat_lt 0 s.1 then outcome.Failed step.Test else s.0.outcome) (run-sums slow files)
-    ∙ ap (λ o. if nat_lt 0 (disagreements_in notes) then outcome.Failed step.Test else o) (outcome-of-sums slow files)) in
-    subst (Means notes) (sym is) (means notes e _ _ _ _ (counted slow files e.outcome) (failed-total slow files) refl refl refl refl)
+    ∙ (ap (λ s. if nat_lt 0 s.1 then outcome.Failed step.Test else s.0.outcome) (run-sums settings files)
+    ∙ ap (λ o. if nat_lt 0 (disagreements_in notes) then outcome.Failed step.Test else o) (outcome-of-sums settings files)) in
+    subst (Means notes) (sym is) (means notes e _ _ _ _ (counted settings files e.outcome) (failed-total settings files) refl refl refl refl)

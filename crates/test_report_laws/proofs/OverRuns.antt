@@ -6,7 +6,7 @@ use Rattle.std.proofs.lemmas.List.Sums.{sum_by-cons}
 use Rattle.test_report_events.specs.Event.{EventView}
 use Rattle.test_report_run_notes.specs.Note.{NoteView}
 use Rattle.test_report_run.specs.FileEnd.{after_file, file_notes}
-use Rattle.test_report_run.specs.Run.{RunState, after, notes_at, run_start}
+use Rattle.test_report_run.specs.Run.{RunSettings, RunState, after, notes_at, run_start}
 use Rattle.test_report_laws.specs.Whole.{all_notes, notes_of, notes_of_file, notes_of_files, run_after, run_after_file, run_after_files}
 
 -- what holds within a file and between files, of a sum over the lines so far, what they made known, and the run
@@ -38,17 +38,18 @@ module _ (Inside Between : ℕ → List NoteView → RunState → Type 0) (c : E
       (end (n + all file) (notes ++ notes_of r file) last (over-lines n notes r file (start n notes r i))))
 
   -- of a whole run, and of one in which a file is read up to a line
-  pub over-run : (slow : ℕ) → Between 0 [] (run_start slow) → (files : List (List EventView))
-      → Between (sum_by (λ file. sum_by c file) files) (all_notes slow files) (run_after_files (run_start slow) files)
-  over-run slow i files =
+  pub over-run : (settings : RunSettings) → Between 0 [] (run_start settings) → (files : List (List EventView))
+      → Between (sum_by (λ file. sum_by c file) files) (all_notes settings files) (run_after_files (run_start settings) files)
+  over-run settings i files =
       let all = sum_by (λ (file : List EventView). sum_by c file) files in
       let same : all ≡ 0 + all = omega arith in
-      rw same (over-files 0 [] (run_start slow) files i)
+      rw same (over-files 0 [] (run_start settings) files i)
 
-  pub up-to-line : (slow : ℕ) → Between 0 [] (run_start slow) → (files : List (List EventView)) (events : List EventView)
-      → Inside (sum_by (λ file. sum_by c file) files + sum_by c events) (all_notes slow files ++ notes_of (run_after_files (run_start slow) files) events)
-      (run_after (run_after_files (run_start slow) files) events)
-  up-to-line slow i files events =
-      let r = run_after_files (run_start slow) files in
+  pub up-to-line : (settings : RunSettings) → Between 0 [] (run_start settings) → (files : List (List EventView)) (events : List EventView)
+      → Inside (sum_by (λ file. sum_by c file) files + sum_by c events)
+      (all_notes settings files ++ notes_of (run_after_files (run_start settings) files) events)
+      (run_after (run_after_files (run_start settings) files) events)
+  up-to-line settings i files events =
+      let r = run_after_files (run_start settings) files in
       let n = sum_by (λ (file : List EventView). sum_by c file) files in
-      over-lines n (all_notes slow files) r events (start n (all_notes slow files) r (over-run slow i files))
+      over-lines n (all_notes settings files) r events (start n (all_notes settings files) r (over-run settings i files))

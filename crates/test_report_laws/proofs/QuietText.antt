@@ -28,7 +28,7 @@ use Rattle.test_report_forms.specs.ShownWhy.{ShownWhyView, text_why}
 use Rattle.test_report_forms.specs.Text.{advice, attempts_note, cargo_advice, counted_text, ended_head, ended_text, failed_head, failed_text, outcome_line, passed_text, skipped_text, summary_lines, text_last, text_line}
 use Rattle.test_report_forms.specs.Title.{title, title_name}
 use Rattle.test_report_forms.specs.WhyLines.{hidden_line, more_line, why_lines}
-use Rattle.test_report_forms.specs.Words.{color_of, command_words, disagreement_line, failed_word, key_and_verdict, not_run_line, outcome_word, said_text, status_text, summary_line, verdict_word}
+use Rattle.test_report_forms.specs.Words.{color_of, command_words, disagreement_line, failed_word, input_words, key_and_verdict, not_run_line, outcome_word, said_text, status_text, summary_line, verdict_word}
 use Rattle.test_report_forms.specs.declared.options.Options.{Options}
 use Rattle.test_report_laws.proofs.Joins.{note-parts, title-end}
 use Rattle.test_report_laws.proofs.KeyedLines.{Alike, each-alike, falling-alike, fold-alike, rising-alike, text-alike}
@@ -109,6 +109,11 @@ command-within (BySignal number) = inner (also (word (codes "ended by signal ") 
 command-within (WithStatus code) =
     inner (also (word (codes "ended with status ") refl) (also (inner-decimal code) (word (codes ", and no line says why") refl)))
 
+input-within : (file : Option (List ℕ)) {text : List ℕ} → Follows text → Within (input_words file ++ text)
+unfolding input_words
+input-within None f = before (word (codes "the input") refl) (record { is = λ a. (f.is a).within })
+input-within (Some file) f = name-before file f
+
 disagreement-opens : (d : DisagreementView) → Opens (disagreement_line d)
 unfolding disagreement_line said_text
 disagreement-opens (EndsEarly suite) = name-opens suite (word-follows 101 refl (inner (word (codes "nded early") refl)))
@@ -130,7 +135,8 @@ disagreement-opens (StartsOutside n) =
 disagreement-opens (CargoSays report) = word-opens 99 refl (before (word (codes "argo: ") refl) (line report.line))
 disagreement-opens (IsDamaged text) =
     word-opens 97 refl (before (word (codes " damaged line says that a test or a suite failed: ") refl) (line text))
-disagreement-opens HasNoEvent = word-opens 110 refl (inner (word (codes "o line of the input is of a test run") refl))
+disagreement-opens (HasNoEvent file) =
+    word-opens 110 refl (before (word (codes "o line of ") refl) (input-within file (word-follows 105 refl (inner (word (codes "s of a test run") refl)))))
 disagreement-opens (CommandFails end) = word-opens 116 refl (before (word (codes "he command ") refl) (command-within end))
 
 not-run-opens : (suite : List ℕ) (n of : ℕ) → Opens (not_run_line suite n of)

@@ -34,7 +34,7 @@ use Rattle.test_report_forms.specs.declared.junit.JunitForm.{JunitForm}
 use Rattle.test_report_forms.specs.declared.markdown.MarkdownForm.{MarkdownForm}
 use Rattle.test_report_forms.specs.declared.options.Options.{Options}
 use Rattle.test_report_run.specs.FileEnd.{end_of}
-use Rattle.test_report_run.specs.Run.{has_failed}
+use Rattle.test_report_run.specs.Run.{RunSettings, has_failed}
 use Rattle.test_report_laws.specs.Lines.{Block, GithubNamesCauses, GithubSays, SaysReason, TextNamesCauses, TextSays, github_block, is_reason, notice, text_block, HasCause, list_block}
 use Rattle.test_report_laws.specs.Status as status
 use Rattle.test_report_laws.specs.Status.{RanNoTests, Succeeds}
@@ -48,19 +48,19 @@ use Rattle.test_report_laws.proofs.TextReasons.{at-entry, fresh-shown, lines-say
 
 -- what status 0 means
 pub success-means : status.SuccessIsInOrder → SuccessMeans
-success-means in-order slow inputs entries run are =
-    let same = one-run slow inputs entries run are in
+success-means in-order settings inputs entries run are =
+    let same = one-run settings inputs entries run are in
     let files = same.0 in
     let end = same.1.end_is in
-    let means = in-order slow files in (
+    let means = in-order settings files in (
       files,
       same.1,
       (λ is.
           let found = means.0 (sym (ap (λ (e : RunEnd). e.outcome) end) ∙ is) in
-          (found.0, all-ended slow files found.1 [] inputs files refl same.1.say, found.1)),
+          (found.0, all-ended settings files found.1 [] inputs files refl same.1.say, found.1)),
       (λ is.
           let found = means.1 (sym (ap (λ (e : RunEnd). e.outcome) end) ∙ is) in
-          (found.0, all-ended slow files found.1 [] inputs files refl same.1.say, found.1)),
+          (found.0, all-ended settings files found.1 [] inputs files refl same.1.say, found.1)),
     )
 
 -- an element of a list, and the one beside it
@@ -93,14 +93,14 @@ entry-reason (IsNotRun suite n of) e is reason = subst (λ x. IsTrue (is_reason 
 entry-reason (SuiteIs s) e is reason = absurd (cc)
 
 pub has-reason : status.FailureHasReason → FailureHasReason
-has-reason reasons slow inputs entries run are fails =
-    let same = one-run slow inputs entries run are in
+has-reason reasons settings inputs entries run are fails =
+    let same = one-run settings inputs entries run are in
     let files = same.0 in
     let end = ap (λ (e : RunEnd). e.outcome) same.1.end_is in
-    elim (reasons slow files (λ is. fails (end ∙ is))) [
+    elim (reasons settings files (λ is. fails (end ∙ is))) [
       | inl found ↦
-          let place = Contains-permutation (all_notes slow files) same.1.notes found.0
-          (same-notes same.1.notes (all_notes slow files) same.1.order) found.1 in
+          let place = Contains-permutation (all_notes settings files) same.1.notes found.0
+          (same-notes same.1.notes (all_notes settings files) same.1.order) found.1 in
           let beside = beside-at IsEntryOf same.1.notes (all_entries entries) found.0 place.0 same.1.are place.1 place.2 in
           inl (beside.other, beside.is_one, entry-reason found.0 beside.other beside.related found.2)
       | inr none ↦ inr (end ∙ none.0)
@@ -297,16 +297,17 @@ texts-of line (es ∷ entries) =
     ∙ sym (flat_map-append line es (all_entries entries))
 
 -- the text of its report
-report-text : (slow : ℕ) (line : EntryView → List ℕ) (last : List EntryView → RunEnd → List ℕ) (inputs : List InputView) (text : List ℕ) (end : RunEnd)
-    (report : IsReport slow (only_texts line) last inputs text end)
+report-text : (settings : RunSettings) (line : EntryView → List ℕ) (last : List EntryView → RunEnd → List ℕ) (inputs : List InputView) (text : List ℕ)
+    (end : RunEnd)
+    (report : IsReport settings (only_texts line) last inputs text end)
     → text ≡ flat_map line (all_entries report.entries) ++ last (all_entries report.entries) end
-report-text slow line last inputs text end report = report.is ∙ ap (λ x. x ++ last (all_entries report.entries) end) (texts-of line report.entries)
+report-text settings line last inputs text end report = report.is ∙ ap (λ x. x ++ last (all_entries report.entries) end) (texts-of line report.entries)
 
 -- the text of a report that is written at the end
-end-text : (slow : ℕ) (last : List EntryView → RunEnd → List ℕ) (inputs : List InputView) (text : List ℕ) (end : RunEnd)
-    (report : IsReport slow (only_texts nothing) last inputs text end) → text ≡ last (all_entries report.entries) end
-end-text slow last inputs text end report =
-    report-text slow nothing last inputs text end report ∙ ap (λ x. x ++ last (all_entries report.entries) end) (none-first (all_entries report.entries))
+end-text : (settings : RunSettings) (last : List EntryView → RunEnd → List ℕ) (inputs : List InputView) (text : List ℕ) (end : RunEnd)
+    (report : IsReport settings (only_texts nothing) last inputs text end) → text ≡ last (all_entries report.entries) end
+end-text settings last inputs text end report =
+    report-text settings nothing last inputs text end report ∙ ap (λ x. x ++ last (all_entries report.entries) end) (none-first (all_entries report.entries))
 
 -- a file, if it is there
 if-there : {F : Type 0} (P : List ℕ → Type 0) (last : F → List ℕ) (form : Option F) (text : Option (List ℕ)) → text ≡ option_map last form
@@ -322,72 +323,73 @@ if-junit P last Q (Some f) text is each = λ q. subst (λ t. IfSome t (P f)) (sy
 
 -- a report, and the texts of files
 module _ (has_reason : FailureHasReason) where
-  reason-of : (slow : ℕ) (line : List EntryView → List ℕ) (last : List EntryView → RunEnd → List ℕ) (inputs : List InputView) (text : List ℕ) (end : RunEnd)
-      (report : IsReport slow line last inputs text end) → ¬ (Succeeds end)
+  reason-of : (settings : RunSettings) (line : List EntryView → List ℕ) (last : List EntryView → RunEnd → List ℕ) (inputs : List InputView) (text : List ℕ)
+      (end : RunEnd)
+      (report : IsReport settings line last inputs text end) → ¬ (Succeeds end)
       → ((e : EntryView) × Contains (all_entries report.entries) e × IsTrue (is_reason e)) ⊎ RanNoTests end
-  reason-of slow line last inputs text end report fails =
+  reason-of settings line last inputs text end report fails =
       let same = ap (λ (e : RunEnd). e.outcome) report.end_is in
-      elim (has_reason slow inputs report.entries report.run report.are (λ is. fails (same ∙ is))) [
+      elim (has_reason settings inputs report.entries report.run report.are (λ is. fails (same ∙ is))) [
         | inl found ↦ inl found
         | inr none ↦ inr (same ∙ none)
       ]
 
-  report-names : (slow : ℕ) (name written : List ℕ → List ℕ) (line : List EntryView → List ℕ) (last : List EntryView → RunEnd → List ℕ)
-      (inputs : List InputView) (text : List ℕ) (end : RunEnd) (report : IsReport slow line last inputs text end)
+  report-names : (settings : RunSettings) (name written : List ℕ → List ℕ) (line : List EntryView → List ℕ) (last : List EntryView → RunEnd → List ℕ)
+      (inputs : List InputView) (text : List ℕ) (end : RunEnd) (report : IsReport settings line last inputs text end)
       → NamesCauses name written (all_entries report.entries) end text
       → ¬ (Succeeds end) → NamesReason name written (all_entries report.entries) end text
-  report-names slow name written line last inputs text end report causes fails =
-      names-reason name written (all_entries report.entries) end text causes (reason-of slow line last inputs text end report fails)
+  report-names settings name written line last inputs text end report causes fails =
+      names-reason name written (all_entries report.entries) end text causes (reason-of settings line last inputs text end report fails)
 
   pub text-names : TextNamesCauses → TextNamesReason
-  text-names causes slow o inputs text end report fails shown =
+  text-names causes settings o inputs text end report fails shown =
       let entries = all_entries report.entries in
-      let says = subst (TextSays o entries end) (sym (report-text slow (text_line o) (text_last o) inputs text end report)) (causes o entries end) in
-      let found = reason-of slow (only_texts (text_line o)) (text_last o) inputs text end report fails in
+      let says = subst (TextSays o entries end) (sym (report-text settings (text_line o) (text_last o) inputs text end report)) (causes o entries end) in
+      let found = reason-of settings (only_texts (text_line o)) (text_last o) inputs text end report fails in
       let Says = SaysReason (text_block o) (codes "outcome no-tests-run") entries end text ⊎ HasCause (list_block o) entries text in
-      let fresh = none-cancelled slow inputs report.entries report.run report.are in
+      let fresh = none-cancelled settings inputs report.entries report.run report.are in
       elim shown as (λ _. Says) [
         | inl shows ↦ inl (lines-say o entries end text says (fresh-shown o entries fresh shows) found)
         | inr lists ↦ list-says o entries end text says lists.0 lists.1 fresh found
       ]
 
   pub github-names : GithubNamesCauses → GithubNamesReason
-  github-names causes slow o inputs text end report fails =
-      let files = one-run slow inputs report.entries report.run report.are in
+  github-names causes settings o inputs text end report fails =
+      let files = one-run settings inputs report.entries report.run report.are in
       let notes = of-notes files.1.notes (all_entries report.entries) files.1.are in
       let says = subst (GithubSays o (all_entries report.entries) end)
-      (sym (report-text slow (github_line o) (λ entries end. github_last end) inputs text end report)) (causes o (all_entries report.entries) end notes) in
+      (sym (report-text settings (github_line o) (λ entries end. github_last end) inputs text end report)) (causes o (all_entries report.entries) end notes) in
       says-reason (github_block o) (notice end) (all_entries report.entries) end text (λ e is_one reason. github-own o e reason) says.causes
       (λ none. says.outcome)
-      (reason-of slow (only_texts (github_line o)) (λ entries end. github_last end) inputs text end report fails)
+      (reason-of settings (only_texts (github_line o)) (λ entries end. github_last end) inputs text end report fails)
 
   pub html-names : HtmlNamesCauses → HtmlNamesReason
-  html-names causes slow o inputs text end report =
-      let is = end-text slow (html_of o) inputs text end report in
-      report-names slow (hole_text hole.Text) (hole_text hole.Text) (only_texts nothing) (html_of o) inputs text end report
+  html-names causes settings o inputs text end report =
+      let is = end-text settings (html_of o) inputs text end report in
+      report-names settings (hole_text hole.Text) (hole_text hole.Text) (only_texts nothing) (html_of o) inputs text end report
       (subst (NamesCauses (hole_text hole.Text) (hole_text hole.Text) (all_entries report.entries) end) (sym is) (causes o (all_entries report.entries) end))
 
   pub junit-names : JunitNamesCauses → JunitNamesReason
-  junit-names causes slow o inputs text end report fails to_pass =
-      let is = end-text slow (junit_of o) inputs text end report in
+  junit-names causes settings o inputs text end report fails to_pass =
+      let is = end-text settings (junit_of o) inputs text end report in
       let own = causes o (all_entries report.entries) end in
       has-case o (all_entries report.entries) end text own.0 (subst (λ x. IsXml x own.0) (sym is) own.1) own.2 to_pass
-      (reason-of slow (only_texts nothing) (junit_of o) inputs text end report fails)
+      (reason-of settings (only_texts nothing) (junit_of o) inputs text end report fails)
 
   pub markdown-names : MarkdownNamesCauses → MarkdownNamesReason
-  markdown-names causes slow o inputs text end report fails =
-      let is = end-text slow (markdown_of o) inputs text end report in
+  markdown-names causes settings o inputs text end report fails =
+      let is = end-text settings (markdown_of o) inputs text end report in
       summary-reason o (all_entries report.entries) end text
       (subst (SummaryNames (shown_tests (failures_of summary_limits o (all_entries report.entries))) (all_entries report.entries) end) (sym is)
       (causes o (all_entries report.entries) end))
-      (reason-of slow (only_texts nothing) (markdown_of o) inputs text end report fails)
+      (reason-of settings (only_texts nothing) (markdown_of o) inputs text end report fails)
 
   pub files-name : JunitNamesCauses → HtmlNamesCauses → MarkdownNamesCauses → FilesNameReason
-  files-name junit html markdown slow files inputs texts are fails =
+  files-name junit html markdown settings files inputs texts are fails =
       let end = end_of are.run in
       let between-tags = hole_text hole.Text in
       let in-markdown = hole_text hole.Plain in
-      let found = has_reason slow inputs are.entries are.run are.are fails in (
+      let found = has_reason settings inputs are.entries are.run are.are fails in (
         if-junit (λ f. HasReasonCase f.options (all_entries are.entries) end) (λ f. junit_last f (all_entries are.entries) end)
             (λ f. ¬ (RanNoTests end × IsTrue f.options.no_tests_pass)) files.junit (text_view texts.junit) are.say.junit
             (λ f to_pass. let own = junit f.options (all_entries are.entries) end in has-case f.options (all_entries are.entries) end _ own.0 own.1 own.2

@@ -52,4 +52,5 @@ by-outcome notes o named means fails = inl (reason-in notes (omega (
 )))
 
 pub failure-reason : FailureHasReason
-failure-reason slow files = by-outcome (all_notes slow files) (whole_end slow files).outcome (not-run-named slow files) (outcome-means slow files)
+failure-reason settings files = by-outcome (all_notes settings files) (whole_end settings files).outcome (not-run-named settings files)
+    (outcome-means settings files)

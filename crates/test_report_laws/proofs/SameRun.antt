@@ -171,13 +171,13 @@ all-entries (ns ∷ notes) (es ∷ entries) zip =
     zip-append IsEntryOf ns (all-notes notes) es (all_entries entries) zip.0 (all-entries notes entries zip.1)
 
 pub one-run : OneRun
-one-run slow inputs entries run are = (
+one-run settings inputs entries run are = (
   map in-order are.events,
   record {
     say = have-events inputs are.events are.say;
-    notes = all-notes (notes_of_inputs (run_start slow) are.events);
-    order = inputs-notes (run_start slow) are.events;
-    are = all-entries (notes_of_inputs (run_start slow) are.events) entries are.are;
-    end_is = ap end_of (are.run_is ∙ inputs-run (run_start slow) are.events);
+    notes = all-notes (notes_of_inputs (run_start settings) are.events);
+    order = inputs-notes (run_start settings) are.events;
+    are = all-entries (notes_of_inputs (run_start settings) are.events) entries are.are;
+    end_is = ap end_of (are.run_is ∙ inputs-run (run_start settings) are.events);
   },
 )

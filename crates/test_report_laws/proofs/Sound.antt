@@ -35,10 +35,10 @@ all-known notes r holds k d low =
     )
 
 pub suites-sound : SuitesAreSound
-suites-sound slow files events r is =
-    subst (λ x. IsSound x.outside × All IsSound x.suites) (sym is) (all-sound _ _ (holds-after failed-rules slow files events))
+suites-sound settings files events r is =
+    subst (λ x. IsSound x.outside × All IsSound x.suites) (sym is) (all-sound _ _ (holds-after failed-rules settings files events))
 
 pub failures-known : FailuresAreKnown
-failures-known slow files events r is =
-    let notes = all_notes slow files ++ notes_of (run_after_files (run_start slow) files) events in
-    subst (λ (x : RunState). All (λ s. failed_of s.stats ≤ failed_in notes) x.suites) (sym is) (all-known _ _ (holds-after failed-rules slow files events))
+failures-known settings files events r is =
+    let notes = all_notes settings files ++ notes_of (run_after_files (run_start settings) files) events in
+    subst (λ (x : RunState). All (λ s. failed_of s.stats ≤ failed_in notes) x.suites) (sym is) (all-known _ _ (holds-after failed-rules settings files events))

@@ -20,7 +20,7 @@ use Rattle.test_report_laws.specs.Run.{Counts, TotalsAreCounts, failed_in, fails
 use Rattle.test_report_run.specs.Ended.{after_end, end_notes}
 use Rattle.test_report_run.specs.Suite.{OverView, SuiteState}
 use Rattle.test_report_laws.proofs.Types.{Explanation}
-use Rattle.test_report_run.specs.Run.{has_failed, run_start, with_note}
+use Rattle.test_report_run.specs.Run.{RunSettings, has_failed, run_start, with_note}
 use Rattle.test_report_run.specs.Totals.{ending, no_suites}
 use Rattle.test_report_laws.specs.Whole.{all_notes, run_after_files}
 use Rattle.run_events_stats.specs.declared.outcome.RunFailureStep.TheVariants as step
@@ -129,8 +129,8 @@ end-crash s t order e Ok = grind arith
 end-crash s t order e Failed = grind arith
 end-crash s t order e Ignored = refl
 
-crashed-sums : (slow : ℕ) (files : List (List EventView))
-    → HoldsAll 0 (of_test crashed_weight) crashed_said (all_notes slow files) (run_after_files (run_start slow) files)
+crashed-sums : (settings : RunSettings) (files : List (List EventView))
+    → HoldsAll 0 (of_test crashed_weight) crashed_said (all_notes settings files) (run_after_files (run_start settings) files)
 crashed-sums = holds-whole {h = λ k. k.crashed} {Fine = λ k. Unit {0}} record {
   w_disagree = λ d. refl;
   v_disagree = λ d. refl;
@@ -169,8 +169,8 @@ skipped-last s e tests =
     let w = of_test skipped_weight in
     omega (arith, ends.by-last w (λ d. refl) (λ suite n of. refl) false true s e tests (λ name. refl) (λ x. grind arith) (λ name. refl))
 
-skipped-sums : (slow : ℕ) (files : List (List EventView))
-    → HoldsAll 1 (of_test skipped_weight) skipped_said (all_notes slow files) (run_after_files (run_start slow) files)
+skipped-sums : (settings : RunSettings) (files : List (List EventView))
+    → HoldsAll 1 (of_test skipped_weight) skipped_said (all_notes settings files) (run_after_files (run_start settings) files)
 skipped-sums = holds-whole {h = λ k. k.skipped} {Fine = λ k. Unit {0}} record {
   w_disagree = λ d. refl;
   v_disagree = λ d. refl;
@@ -211,26 +211,26 @@ same-not_run notes = sum-same (of_suite (λ s. s.not_run)) not_run_of each notes
     each (TestIs t) = refl
     each note = refl
 
-pub failed-total : (slow : ℕ) (files : List (List EventView))
-    → failed_tests (fold with_note no_suites (all_notes slow files)).stats ≡ failed_in (all_notes slow files)
-failed-total slow files = omega (
+pub failed-total : (settings : RunSettings) (files : List (List EventView))
+    → failed_tests (fold with_note no_suites (all_notes settings files)).stats ≡ failed_in (all_notes settings files)
+failed-total settings files = omega (
   arith,
-  total failed_tests failed_weight refl failed-counts (λ output n slow h. refl) (λ reason n slow. refl) (λ a b. omega arith) slow files,
-  count-of (λ t. has_failed t.outcome) failed_weight (λ t. refl) (all_notes slow files),
+  total failed_tests failed_weight refl failed-counts (λ output n slow h. refl) (λ reason n slow. refl) (λ a b. omega arith) settings files,
+  count-of (λ t. has_failed t.outcome) failed_weight (λ t. refl) (all_notes settings files),
 )
 
 -- the sums over the notes of a whole run, whatever the outcome
-pub counted : (slow : ℕ) (files : List (List EventView)) (o : RunOutcome)
-    → Counts (all_notes slow files) record (fold with_note no_suites (all_notes slow files)) { outcome = o }
-counted slow files o =
-    let notes = all_notes slow files in
-    let crashed = (crashed-sums slow files).whole in
-    let skipped = (skipped-sums slow files).whole in
+pub counted : (settings : RunSettings) (files : List (List EventView)) (o : RunOutcome)
+    → Counts (all_notes settings files) record (fold with_note no_suites (all_notes settings files)) { outcome = o }
+counted settings files o =
+    let notes = all_notes settings files in
+    let crashed = (crashed-sums settings files).whole in
+    let skipped = (skipped-sums settings files).whole in
     let sum_crashed = sum-of (λ e. e.crashed) (λ s. s.crashed) (λ e s. refl) refl notes in
     let sum_skipped = sum-of (λ e. e.skipped) (λ s. s.skipped) (λ e s. refl) refl notes in
     let finished =
-    total (λ s. s.finished_count) finished_weight refl finished-counts (λ output n slow h. refl) (λ reason n slow. refl) (λ a b. refl) slow files in
-    let passed = total (λ s. s.passed) passed_weight refl passed-counts (λ output n slow h. refl) (λ reason n slow. refl) (λ a b. refl) slow files in
+    total (λ s. s.finished_count) finished_weight refl finished-counts (λ output n slow h. refl) (λ reason n slow. refl) (λ a b. refl) settings files in
+    let passed = total (λ s. s.passed) passed_weight refl passed-counts (λ output n slow h. refl) (λ reason n slow. refl) (λ a b. refl) settings files in
     let passed_count = count-of (λ t. has_passed t.outcome) passed_weight (λ t. refl) notes in
     let finished_count = finished-of notes in
     record {
@@ -239,17 +239,17 @@ counted slow files o =
       failed = omega arith;
       flaky = omega (
         arith,
-        total (λ s. s.flaky) flaky_weight refl flaky-counts (λ output n slow h. ap one h) (λ reason n slow. refl) (λ a b. refl) slow files,
+        total (λ s. s.flaky) flaky_weight refl flaky-counts (λ output n slow h. ap one h) (λ reason n slow. refl) (λ a b. refl) settings files,
         count-of (λ t. has_passed t.outcome && nat_lt 1 t.attempts) flaky_weight (λ t. refl) notes,
       );
       slow = omega (
         arith,
-        total (λ s. s.passed_slow) slow_weight refl slow-counts (λ output n slow h. refl) (λ reason n slow. refl) (λ a b. refl) slow files,
+        total (λ s. s.passed_slow) slow_weight refl slow-counts (λ output n slow h. refl) (λ reason n slow. refl) (λ a b. refl) settings files,
         count-of (λ t. has_passed t.outcome && t.slow) slow_weight (λ t. refl) notes,
       );
       timed_out = omega (
         arith,
-        total (λ s. s.failed_timed_out) timed_out_weight refl timed_out-counts (λ output n slow h. refl) (λ reason n slow. refl) (λ a b. refl) slow files,
+        total (λ s. s.failed_timed_out) timed_out_weight refl timed_out-counts (λ output n slow h. refl) (λ reason n slow. refl) (λ a b. refl) settings files,
         count-of (λ t. fails_by is_timed_out t.outcome) timed_out_weight (λ t. refl) notes,
       );
       crashed = omega (arith, crashed.high refl, count-of (λ t. fails_by is_crash t.outcome) crashed_weight (λ t. refl) notes);
@@ -257,17 +257,18 @@ counted slow files o =
       not_run = sum-of (λ e. e.not_run) (λ s. s.not_run) (λ e s. refl) refl notes ∙ same-not_run notes;
     }
 
-pub run-sums : (slow : ℕ) (files : List (List EventView)) → sums_of (run_after_files (run_start slow) files) ≡ sums_in (all_notes slow files)
-run-sums slow files = (crashed-sums slow files).all_sums
+pub run-sums : (settings : RunSettings) (files : List (List EventView))
+    → sums_of (run_after_files (run_start settings) files) ≡ sums_in (all_notes settings files)
+run-sums settings files = (crashed-sums settings files).all_sums
 
-counted-end : (slow : ℕ) (files : List (List EventView)) (disagree : Bool)
-    → let e = fold with_note no_suites (all_notes slow files) in
-    Counts (all_notes slow files) (if disagree then record e { outcome = outcome.Failed step.Test } else e)
-counted-end slow files true = counted slow files (outcome.Failed step.Test)
-counted-end slow files false = counted slow files (fold with_note no_suites (all_notes slow files)).outcome
+counted-end : (settings : RunSettings) (files : List (List EventView)) (disagree : Bool)
+    → let e = fold with_note no_suites (all_notes settings files) in
+    Counts (all_notes settings files) (if disagree then record e { outcome = outcome.Failed step.Test } else e)
+counted-end settings files true = counted settings files (outcome.Failed step.Test)
+counted-end settings files false = counted settings files (fold with_note no_suites (all_notes settings files)).outcome
 
 pub totals-count : TotalsAreCounts
-totals-count slow files =
-    let r = run_after_files (run_start slow) files in
-    subst (λ e. Counts (all_notes slow files) (ending e r.disagreements)) (sym (ap (λ s. s.0) (run-sums slow files)))
-    (counted-end slow files (nat_lt 0 r.disagreements))
+totals-count settings files =
+    let r = run_after_files (run_start settings) files in
+    subst (λ e. Counts (all_notes settings files) (ending e r.disagreements)) (sym (ap (λ s. s.0) (run-sums settings files)))
+    (counted-end settings files (nat_lt 0 r.disagreements))

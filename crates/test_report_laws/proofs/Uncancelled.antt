@@ -26,7 +26,7 @@ use Rattle.test_report_run.specs.Ended.{end_notes}
 use Rattle.test_report_run.specs.Others.{OthersView}
 use Rattle.test_report_run.specs.Over.{early_notes, explained_of, last_notes}
 use Rattle.test_report_run.specs.FileEnd.{after_file, file_notes}
-use Rattle.test_report_run.specs.Run.{RunState, Step, after, counts_tests, disagrees, ended_at, ended_early, notes_at, open_suite, opened, running_ends, running_over, settled_at, started_again, step, stray_ends, stray_over, stray_suite_notes, stray_test, suite_at, suite_place, tests_in, with_report, with_suite_at, without_tests}
+use Rattle.test_report_run.specs.Run.{RunSettings, RunState, Step, after, counts_tests, disagrees, ended_at, ended_early, notes_at, open_suite, opened, running_ends, running_over, settled_at, started_again, step, stray_ends, stray_over, stray_suite_notes, stray_test, suite_at, suite_place, tests_in, with_report, with_suite_at, without_tests}
 use Rattle.test_report_run.specs.Run as run
 use Rattle.test_report_run.specs.Running.{RunningView, is_same, place_of_end, running_at}
 use Rattle.std.specs.List.{position, remove}
@@ -311,8 +311,9 @@ fresh-end n notes r i quiet =
     let now = i quiet in
     (file-stays r now.0, omega (arith, now.1, sum_by-append weight notes (file_notes r), file-fresh r now.0))
 
-fresh-notes : (slow : ℕ) (files : List (List EventView)) → sum_by (λ file. sum_by cancels file) files ≡ 0 → sum_by weight (all_notes slow files) ≡ 0
-fresh-notes slow files quiet = (over-run Fresh Fresh cancels (λ n notes r i. i) fresh-line fresh-end slow (λ _. (refl, refl)) files quiet).1
+fresh-notes : (settings : RunSettings) (files : List (List EventView)) → sum_by (λ file. sum_by cancels file) files ≡ 0
+    → sum_by weight (all_notes settings files) ≡ 0
+fresh-notes settings files quiet = (over-run Fresh Fresh cancels (λ n notes r i. i) fresh-line fresh-end settings (λ _. (refl, refl)) files quiet).1
 
 -- if the entry is of a failed test, the run was not cancelled before this became known
 abbrev pub IsNotCancelled : EntryView → Type 0
@@ -346,10 +347,11 @@ entries-fresh (n ∷ ns) (e ∷ es) zip light =
     All-cons IsNotCancelled e es (entry-fresh n e zip.0 (omega (arith, light, parts))) (entries-fresh ns es zip.1 (omega (arith, light, parts)))
 
 -- those of a report
-pub none-cancelled : (slow : ℕ) (inputs : List InputView) (entries : List (List EntryView)) (run : RunState) → AreEntriesOf slow inputs entries run
+pub none-cancelled : (settings : RunSettings) (inputs : List InputView) (entries : List (List EntryView)) (run : RunState)
+    → AreEntriesOf settings inputs entries run
     → All IsNotCancelled (all_entries entries)
-none-cancelled slow inputs entries run are =
-    let whole = one-run slow inputs entries run are in
+none-cancelled settings inputs entries run are =
+    let whole = one-run settings inputs entries run are in
     entries-fresh whole.1.notes (all_entries entries) whole.1.are
-    (sum_by-IsPermutation weight (all_notes slow whole.0) whole.1.notes (same-notes whole.1.notes (all_notes slow whole.0) whole.1.order)
-    ∙ fresh-notes slow whole.0 (files-quiet inputs whole.0 whole.1.say))
+    (sum_by-IsPermutation weight (all_notes settings whole.0) whole.1.notes (same-notes whole.1.notes (all_notes settings whole.0) whole.1.order)
+    ∙ fresh-notes settings whole.0 (files-quiet inputs whole.0 whole.1.say))

@@ -22,7 +22,7 @@ use Rattle.test_report_run.specs.Others.{OthersView}
 use Rattle.test_report_run.specs.Over.{early_notes, last_notes}
 use Rattle.test_report_run.specs.Running.{RunningView}
 use Rattle.test_report_run.specs.FileEnd.{after_file, file_notes}
-use Rattle.test_report_run.specs.Run.{RunState, Step, after, ended_at, ended_early, has_failed, heard, is_cause, learned, tests_in, notes_at, open_suite, opened, settled_at, started_again, step, stray_suite_notes, suite_at, with_suite_at, without_tests}
+use Rattle.test_report_run.specs.Run.{RunSettings, RunState, Step, after, ended_at, ended_early, has_failed, heard, is_cause, learned, notes_at, open_suite, opened, settled_at, started_again, step, stray_suite_notes, suite_at, tests_in, with_suite_at, without_tests}
 use Rattle.test_report_run.specs.Said.{no_lines}
 use Rattle.test_report_run.specs.Suite.{SuiteState, cancelled_by, has_key, joined_by, outside_start, suite_start, with_line}
 use Rattle.test_report_laws.specs.Whole.{all_notes}
@@ -229,20 +229,20 @@ seen-end n notes r numbered i some = omega (
 abbrev SeenNumbered : ℕ → List NoteView → RunState → Type 0
 SeenNumbered n notes r = (weight_of unnumbered r ≡ 0) × Seen n notes r
 
-pub unclean : (slow : ℕ) (files : List (List EventView)) → 0 < failed_verdicts_of files → IsClean (all_notes slow files) → ⊥
-unclean slow files some clean =
+pub unclean : (settings : RunSettings) (files : List (List EventView)) → 0 < failed_verdicts_of files → IsClean (all_notes settings files) → ⊥
+unclean settings files some clean =
     let seen = with-books failed-rules SeenNumbered verdict (λ n notes r e holds i. (numbered-line r e i.0, seen-line n notes r e holds i.0 i.1))
-    (λ n notes r holds i. (numbered-end r, seen-end n notes r i.0 i.1)) slow (refl, λ some. absurd (omega arith)) files in
+    (λ n notes r holds i. (numbered-end r, seen-end n notes r i.0 i.1)) settings (refl, λ some. absurd (omega arith)) files in
     omega (
       arith,
       seen.1 some,
       clean.none_failed,
       clean.none_disagree,
-      causes-of (all_notes slow files),
-      ap (λ (suites : List SuiteState). sum_by (weigh failing) suites) (holds-whole failed-rules slow files).suites,
+      causes-of (all_notes settings files),
+      ap (λ (suites : List SuiteState). sum_by (weigh failing) suites) (holds-whole failed-rules settings files).suites,
     )
 
 pub verdict-shows : FailedVerdictShows
-verdict-shows slow files some =
-    let means = outcome-means slow files in
-    ((λ h. unclean slow files some (means.success.0 h).0), (λ h. unclean slow files some (means.no_tests.0 h).0))
+verdict-shows settings files some =
+    let means = outcome-means settings files in
+    ((λ h. unclean settings files some (means.success.0 h).0), (λ h. unclean settings files some (means.no_tests.0 h).0))

@@ -14,7 +14,7 @@ use Rattle.test_report_laws.proofs.OverRuns.{up-to-line}
 use Rattle.test_report_run.specs.Ended.{after_end}
 use Rattle.test_report_run.specs.Over.{last_notes}
 use Rattle.test_report_run.specs.FileEnd.{after_file}
-use Rattle.test_report_run.specs.Run.{RunState, after, ended_at, heard, heard_at, tests_in, open_suite, opened, place_of_number, run_start, running_ends, running_over, slow_at, started_again, step, stray_ends, stray_over, stray_suite_notes, suite_at, suite_place, told, with_suite_at, without_tests}
+use Rattle.test_report_run.specs.Run.{RunSettings, RunState, after, ended_at, heard, heard_at, open_suite, opened, place_of_number, run_start, running_ends, running_over, slow_at, started_again, step, stray_ends, stray_over, stray_suite_notes, suite_at, suite_place, tests_in, told, with_suite_at, without_tests}
 use Rattle.test_report_run.specs.Running.{RunningView, is_same, place_of_end, running_at, with_slow}
 use Rattle.test_report_run.specs.Said.{no_lines}
 use Rattle.test_report_run.specs.Suite.{OverView, SuiteState, cancelled_by, has_key, joined_by, named, suite_start, with_line, with_start}
@@ -187,7 +187,7 @@ pub numbered-end : (r : RunState) → weight_of unnumbered (after_file r) ≡ 0
 numbered-end r = ap (λ (suites : List SuiteState). sum_by (weigh unnumbered) suites) (none-open r)
 
 -- and so at every line of a run
-pub all-numbered : (slow : ℕ) (files : List (List EventView)) (events : List EventView)
-    → weight_of unnumbered (run_after (run_after_files (run_start slow) files) events) ≡ 0
-all-numbered slow = up-to-line (λ n notes r. weight_of unnumbered r ≡ 0) (λ n notes r. weight_of unnumbered r ≡ 0) (λ e. 0) (λ n notes r none. none)
-    (λ n notes r e none. numbered-line r e none) (λ n notes r none. numbered-end r) slow refl
+pub all-numbered : (settings : RunSettings) (files : List (List EventView)) (events : List EventView)
+    → weight_of unnumbered (run_after (run_after_files (run_start settings) files) events) ≡ 0
+all-numbered settings = up-to-line (λ n notes r. weight_of unnumbered r ≡ 0) (λ n notes r. weight_of unnumbered r ≡ 0) (λ e. 0) (λ n notes r none. none)
+    (λ n notes r e none. numbered-line r e none) (λ n notes r none. numbered-end r) settings refl

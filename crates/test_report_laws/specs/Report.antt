@@ -27,7 +27,7 @@ use Rattle.test_report_forms.specs.declared.options.Options.{Options}
 use Rattle.test_report_laws.specs.Run.{passed_in}
 use Rattle.template.specs.Tree.{TreeView}
 use Rattle.test_report_run.specs.FileEnd.{end_of}
-use Rattle.test_report_run.specs.Run.{RunState}
+use Rattle.test_report_run.specs.Run.{RunSettings, RunState}
 use Rattle.test_report_laws.specs.Status.{IsInOrder, RanNoTests, Succeeds}
 use Rattle.test_report_laws.specs.Whole.{all_notes, whole_end}
 use Rattle.test_report_engine.specs.Lines.{AreEventsOf, InputView}
@@ -35,9 +35,9 @@ use Rattle.test_report_engine.specs.Report.{AreEntriesOf, AreTexts, IsReport, al
 
 -- Inputs have at most one report in a form, and one end of the run.
 abbrev pub OneReport : Type 0
-OneReport = (slow : ℕ) → (line : List EntryView → List ℕ) → (last : List EntryView → RunEnd → List ℕ) → (inputs : List InputView)
+OneReport = (settings : RunSettings) → (line : List EntryView → List ℕ) → (last : List EntryView → RunEnd → List ℕ) → (inputs : List InputView)
     → (a : List ℕ) → (b : List ℕ) → (d : RunEnd) → (e : RunEnd)
-    → IsReport slow line last inputs a d → IsReport slow line last inputs b e → (a ≡ b) × (d ≡ e)
+    → IsReport settings line last inputs a d → IsReport settings line last inputs b e → (a ≡ b) × (d ≡ e)
 
 -- The run of a report is a run of which the laws of the module `run` speak.
 
@@ -53,17 +53,18 @@ pub record AreReordered (notes known : List NoteView) : Type 0 where
   pub last : filter comes_last notes ≡ filter comes_last known
 
 -- these files have the events of inputs, these entries are of what they make known, in the order of a report, and this is their end
-pub record AreFilesOf (slow : ℕ) (inputs : List InputView) (entries : List EntryView) (end : RunEnd) (files : List (List EventView)) : Type 0 where
+pub record AreFilesOf (settings : RunSettings) (inputs : List InputView) (entries : List EntryView) (end : RunEnd)
+    (files : List (List EventView)) : Type 0 where
   pub say : AllZip HasEvents inputs files
   pub notes : List NoteView
-  pub order : AreReordered notes (all_notes slow files)
+  pub order : AreReordered notes (all_notes settings files)
   pub are : AllZip IsEntryOf notes entries
-  pub end_is : end ≡ whole_end slow files
+  pub end_is : end ≡ whole_end settings files
 
 -- The entries and the end of a report are those of files to which these laws apply.
 abbrev pub OneRun : Type 0
-OneRun = (slow : ℕ) → (inputs : List InputView) → (entries : List (List EntryView)) → (run : RunState) → AreEntriesOf slow inputs entries run
-    → (files : List (List EventView)) × AreFilesOf slow inputs (all_entries entries) (end_of run) files
+OneRun = (settings : RunSettings) → (inputs : List InputView) → (entries : List (List EntryView)) → (run : RunState) → AreEntriesOf settings inputs entries run
+    → (files : List (List EventView)) × AreFilesOf settings inputs (all_entries entries) (end_of run) files
 
 -- What the outcomes `Success` and `NoTestsRun` mean.
 
@@ -74,16 +75,18 @@ HasEndedWell input = IfSome input.command (λ end. end ≡ WithStatus 0)
 -- If the outcome in a report is `Success`, a test passed, each command ended with status 0, and nothing is wrong with the lines of the inputs. If it is
 -- `NoTestsRun`, no test passed, and nothing is wrong either.
 abbrev pub SuccessMeans : Type 0
-SuccessMeans = (slow : ℕ) → (inputs : List InputView) → (entries : List (List EntryView)) → (run : RunState) → AreEntriesOf slow inputs entries run
-    → (files : List (List EventView)) × AreFilesOf slow inputs (all_entries entries) (end_of run) files
-    × (Succeeds (end_of run) → (0 < passed_in (all_notes slow files)) × All HasEndedWell inputs × IsInOrder slow files)
-    × (RanNoTests (end_of run) → (passed_in (all_notes slow files) ≡ 0) × All HasEndedWell inputs × IsInOrder slow files)
+SuccessMeans = (settings : RunSettings) → (inputs : List InputView) → (entries : List (List EntryView)) → (run : RunState)
+    → AreEntriesOf settings inputs entries run
+    → (files : List (List EventView)) × AreFilesOf settings inputs (all_entries entries) (end_of run) files
+    × (Succeeds (end_of run) → (0 < passed_in (all_notes settings files)) × All HasEndedWell inputs × IsInOrder settings files)
+    × (RanNoTests (end_of run) → (passed_in (all_notes settings files) ≡ 0) × All HasEndedWell inputs × IsInOrder settings files)
 
 -- What every outcome except `Success` means.
 
 -- If the outcome in a report is not `Success`, an entry says why, or no test ran.
 abbrev pub FailureHasReason : Type 0
-FailureHasReason = (slow : ℕ) → (inputs : List InputView) → (entries : List (List EntryView)) → (run : RunState) → AreEntriesOf slow inputs entries run
+FailureHasReason = (settings : RunSettings) → (inputs : List InputView) → (entries : List (List EntryView)) → (run : RunState)
+    → AreEntriesOf settings inputs entries run
     → ¬ (Succeeds (end_of run))
     → ((e : EntryView) × Contains (all_entries entries) e × IsTrue (is_reason e)) ⊎ RanNoTests (end_of run)
 
@@ -130,16 +133,16 @@ ShowsFailures o entries = IsTrue (shows_failures o) ⊎ (IsTrue (lists_failures 
 
 -- The report for people of a run that does not succeed names a reason in whole lines, if its levels and displays show or list failed tests.
 abbrev pub TextNamesReason : Type 0
-TextNamesReason = (slow : ℕ) → (o : Options) → (inputs : List InputView) → (text : List ℕ) → (end : RunEnd)
-    → (report : IsReport slow (only_texts (text_line o)) (text_last o) inputs text end) → ¬ (Succeeds end)
+TextNamesReason = (settings : RunSettings) → (o : Options) → (inputs : List InputView) → (text : List ℕ) → (end : RunEnd)
+    → (report : IsReport settings (only_texts (text_line o)) (text_last o) inputs text end) → ¬ (Succeeds end)
     → ShowsFailures o (all_entries report.entries)
     → SaysReason (text_block o) (codes "outcome no-tests-run") (all_entries report.entries) end text
     ⊎ HasCause (list_block o) (all_entries report.entries) text
 
 -- The report for GitHub of such a run names a reason.
 abbrev pub GithubNamesReason : Type 0
-GithubNamesReason = (slow : ℕ) → (o : Options) → (inputs : List InputView) → (text : List ℕ) → (end : RunEnd)
-    → (report : IsReport slow (only_texts (github_line o)) (λ entries end. github_last end) inputs text end) → ¬ (Succeeds end)
+GithubNamesReason = (settings : RunSettings) → (o : Options) → (inputs : List InputView) → (text : List ℕ) → (end : RunEnd)
+    → (report : IsReport settings (only_texts (github_line o)) (λ entries end. github_last end) inputs text end) → ¬ (Succeeds end)
     → SaysReason (github_block o) (notice end) (all_entries report.entries) end text
 
 -- JUnit's XML reads back as a tree that has the test case of a reason why a run does not succeed: the cause of an entry, or that no test ran
@@ -152,25 +155,26 @@ pub record HasReasonCase (o : Options) (entries : List EntryView) (end : RunEnd)
 
 -- JUnit's XML of such a run has the test case of a reason, unless no test ran and a run without tests is to pass.
 abbrev pub JunitNamesReason : Type 0
-JunitNamesReason = (slow : ℕ) → (o : Options) → (inputs : List InputView) → (text : List ℕ) → (end : RunEnd)
-    → (report : IsReport slow (only_texts (λ entry. [])) (junit_of o) inputs text end)
+JunitNamesReason = (settings : RunSettings) → (o : Options) → (inputs : List InputView) → (text : List ℕ) → (end : RunEnd)
+    → (report : IsReport settings (only_texts (λ entry. [])) (junit_of o) inputs text end)
     → ¬ (Succeeds end) → ¬ (RanNoTests end × IsTrue o.no_tests_pass) → HasReasonCase o (all_entries report.entries) end text
 
 -- The page of such a run names a reason.
 abbrev pub HtmlNamesReason : Type 0
-HtmlNamesReason = (slow : ℕ) → (o : Options) → (inputs : List InputView) → (text : List ℕ) → (end : RunEnd)
-    → (report : IsReport slow (only_texts (λ entry. [])) (html_of o) inputs text end) → ¬ (Succeeds end)
+HtmlNamesReason = (settings : RunSettings) → (o : Options) → (inputs : List InputView) → (text : List ℕ) → (end : RunEnd)
+    → (report : IsReport settings (only_texts (λ entry. [])) (html_of o) inputs text end) → ¬ (Succeeds end)
     → NamesReason (hole_text hole.Text) (hole_text hole.Text) (all_entries report.entries) end text
 
 -- The summary of such a run names a reason.
 abbrev pub MarkdownNamesReason : Type 0
-MarkdownNamesReason = (slow : ℕ) → (o : Options) → (inputs : List InputView) → (text : List ℕ) → (end : RunEnd)
-    → (report : IsReport slow (only_texts (λ entry. [])) (markdown_of o) inputs text end) → ¬ (Succeeds end)
+MarkdownNamesReason = (settings : RunSettings) → (o : Options) → (inputs : List InputView) → (text : List ℕ) → (end : RunEnd)
+    → (report : IsReport settings (only_texts (λ entry. [])) (markdown_of o) inputs text end) → ¬ (Succeeds end)
     → NamesReason (hole_text hole.Plain) (hole_text hole.Plain) (all_entries report.entries) end text
 
 -- The texts of the files name a reason, too.
 abbrev pub FilesNameReason : Type 0
-FilesNameReason = (slow : ℕ) → (files : FileForms) → (inputs : List InputView) → (texts : FileTexts) → (are : AreTexts slow files inputs texts)
+FilesNameReason = (settings : RunSettings) → (files : FileForms) → (inputs : List InputView) → (texts : FileTexts)
+    → (are : AreTexts settings files inputs texts)
     → ¬ (Succeeds (end_of are.run))
     → IfSome files.junit (λ form. ¬ (RanNoTests (end_of are.run) × IsTrue form.options.no_tests_pass)
     → IfSome (text_view texts.junit) (HasReasonCase form.options (all_entries are.entries) (end_of are.run)))

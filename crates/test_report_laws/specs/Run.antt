@@ -15,7 +15,7 @@ use Rattle.test_report_run.specs.Ended.{failure_of}
 use Rattle.test_report_run.specs.Others.{OthersView}
 use Rattle.test_report_run.specs.Over.{crash_again, early_notes, last_notes}
 use Rattle.test_report_run.specs.FileEnd.{file_notes}
-use Rattle.test_report_run.specs.Run.{RunState, counts_tests, has_failed, is_disagreement, notes_at, open_suite, run_start, told}
+use Rattle.test_report_run.specs.Run.{RunSettings, RunState, counts_tests, has_failed, is_disagreement, notes_at, open_suite, run_start, told}
 use Rattle.test_report_run.specs.Running.{RunningView, ends_in_number, without_number}
 use Rattle.test_report_run.specs.Said.{numbers_of}
 use Rattle.test_report_run.specs.Suite.{SuiteState}
@@ -189,7 +189,7 @@ pub record Counts (notes : List NoteView) (end : RunEnd) : Type 0 where
 
 -- The sums at the end of every run are such counts.
 abbrev pub TotalsAreCounts : Type 0
-TotalsAreCounts = (slow : ℕ) → (files : List (List EventView)) → Counts (all_notes slow files) (whole_end slow files)
+TotalsAreCounts = (settings : RunSettings) → (files : List (List EventView)) → Counts (all_notes settings files) (whole_end settings files)
 
 -- What the outcome means.
 
@@ -212,7 +212,7 @@ pub record Means (notes : List NoteView) (o : RunOutcome) : Type 0 where
 
 -- This is what the outcome of every run means.
 abbrev pub OutcomeMeans : Type 0
-OutcomeMeans = (slow : ℕ) → (files : List (List EventView)) → Means (all_notes slow files) (whole_end slow files).outcome
+OutcomeMeans = (settings : RunSettings) → (files : List (List EventView)) → Means (all_notes settings files) (whole_end settings files).outcome
 
 -- Nothing is hidden.
 
@@ -277,7 +277,7 @@ AreBelow before (n ∷ notes) = IfSome (crashed_test n) (IsFirstOrBelow before) 
 -- In every run the note of each crashed test that is not the first of its suite comes right after that of a test of the suite that crashed in the same
 -- way.
 abbrev pub CrashesFollow : Type 0
-CrashesFollow = (slow : ℕ) → (files : List (List EventView)) → AreBelow None (all_notes slow files)
+CrashesFollow = (settings : RunSettings) → (files : List (List EventView)) → AreBelow None (all_notes settings files)
 
 -- A suite that ends early makes a crashed test or a disagreement known, and so does a file with tests outside of a suite.
 abbrev pub EarlyEndShows : Type 0
@@ -299,24 +299,24 @@ failed_lines_of files = sum_by failed_lines_in files
 
 -- A whole run has as many failed tests whose lines say so as it has such lines.
 abbrev pub FailedLinesAreTold : Type 0
-FailedLinesAreTold = (slow : ℕ) → (files : List (List EventView)) → count_by is_told_failure (all_notes slow files) ≡ failed_lines_of files
+FailedLinesAreTold = (settings : RunSettings) → (files : List (List EventView)) → count_by is_told_failure (all_notes settings files) ≡ failed_lines_of files
 
 -- If a line of a run says that a test failed, the outcome is neither `Success` nor `NoTestsRun`.
 abbrev pub FailedLineShows : Type 0
-FailedLineShows = (slow : ℕ) → (files : List (List EventView)) → 0 < failed_lines_of files
-    → ((whole_end slow files).outcome ≢ outcome.Success) × ((whole_end slow files).outcome ≢ outcome.NoTestsRun)
+FailedLineShows = (settings : RunSettings) → (files : List (List EventView)) → 0 < failed_lines_of files
+    → ((whole_end settings files).outcome ≢ outcome.Success) × ((whole_end settings files).outcome ≢ outcome.NoTestsRun)
 
 -- When these files, and these lines of the next file, are read, each open suite is sound. So are the tests outside of suites.
 abbrev pub SuitesAreSound : Type 0
-SuitesAreSound = (slow : ℕ) → (files : List (List EventView)) → (events : List EventView) → (r : RunState)
-    → r ≡ run_after (run_after_files (run_start slow) files) events
+SuitesAreSound = (settings : RunSettings) → (files : List (List EventView)) → (events : List EventView) → (r : RunState)
+    → r ≡ run_after (run_after_files (run_start settings) files) events
     → IsSound r.outside × All IsSound r.suites
 
 -- The failed tests that an open suite counts are among those that became known so far.
 abbrev pub FailuresAreKnown : Type 0
-FailuresAreKnown = (slow : ℕ) → (files : List (List EventView)) → (events : List EventView) → (r : RunState)
-    → r ≡ run_after (run_after_files (run_start slow) files) events
-    → All (λ s. failed_of s.stats ≤ failed_in (all_notes slow files ++ notes_of (run_after_files (run_start slow) files) events)) r.suites
+FailuresAreKnown = (settings : RunSettings) → (files : List (List EventView)) → (events : List EventView) → (r : RunState)
+    → r ≡ run_after (run_after_files (run_start settings) files) events
+    → All (λ s. failed_of s.stats ≤ failed_in (all_notes settings files ++ notes_of (run_after_files (run_start settings) files) events)) r.suites
 
 -- What `Success` means for the last lines of suites, for what was announced, and for failures of cargo.
 
@@ -346,8 +346,8 @@ failed_verdicts_of files = sum_by failed_verdicts_in files
 
 -- If the last line of a suite has a failed verdict, the outcome is neither `Success` nor `NoTestsRun`.
 abbrev pub FailedVerdictShows : Type 0
-FailedVerdictShows = (slow : ℕ) → (files : List (List EventView)) → 0 < failed_verdicts_of files
-    → ((whole_end slow files).outcome ≢ outcome.Success) × ((whole_end slow files).outcome ≢ outcome.NoTestsRun)
+FailedVerdictShows = (settings : RunSettings) → (files : List (List EventView)) → 0 < failed_verdicts_of files
+    → ((whole_end settings files).outcome ≢ outcome.Success) × ((whole_end settings files).outcome ≢ outcome.NoTestsRun)
 
 -- the line is damaged, and says that a test or a suite failed
 abbrev pub is_damaged : EventView → Bool
@@ -375,8 +375,8 @@ damaged_lines_of files = sum_by damaged_lines_in files
 
 -- If a damaged line says that a test or a suite failed, the outcome is neither `Success` nor `NoTestsRun`.
 abbrev pub DamagedLineShows : Type 0
-DamagedLineShows = (slow : ℕ) → (files : List (List EventView)) → 0 < damaged_lines_of files
-    → ((whole_end slow files).outcome ≢ outcome.Success) × ((whole_end slow files).outcome ≢ outcome.NoTestsRun)
+DamagedLineShows = (settings : RunSettings) → (files : List (List EventView)) → 0 < damaged_lines_of files
+    → ((whole_end settings files).outcome ≢ outcome.Success) × ((whole_end settings files).outcome ≢ outcome.NoTestsRun)
 
 -- how many lines of a file are events of a harness
 abbrev pub events_in : List EventView → ℕ
@@ -384,14 +384,15 @@ events_in file = count_by is_event file
 
 -- If a file has no event of a harness, and is not the output of a command that has ended, the outcome is neither `Success` nor `NoTestsRun`.
 abbrev pub NoEventShows : Type 0
-NoEventShows = (slow : ℕ) → (files : List (List EventView)) → (r : RunState) → (end : IsFileEndOf slow files r) → events_in end.file ≡ 0 → r.command ≡ None
-    → ((whole_end slow files).outcome ≢ outcome.Success) × ((whole_end slow files).outcome ≢ outcome.NoTestsRun)
+NoEventShows = (settings : RunSettings) → (files : List (List EventView)) → (r : RunState) → (end : IsFileEndOf settings files r) → events_in end.file ≡ 0
+    → r.command ≡ None
+    → ((whole_end settings files).outcome ≢ outcome.Success) × ((whole_end settings files).outcome ≢ outcome.NoTestsRun)
 
 -- If a command could not be started, was ended by a signal, or ended with a status above 0, the outcome is neither `Success` nor `NoTestsRun`.
 abbrev pub CommandEndShows : Type 0
-CommandEndShows = (slow : ℕ) → (files : List (List EventView)) → (r : RunState) → IsFileEndOf slow files r → (end : CommandView)
+CommandEndShows = (settings : RunSettings) → (files : List (List EventView)) → (r : RunState) → IsFileEndOf settings files r → (end : CommandView)
     → r.command ≡ Some end → end ≢ WithStatus 0
-    → ((whole_end slow files).outcome ≢ outcome.Success) × ((whole_end slow files).outcome ≢ outcome.NoTestsRun)
+    → ((whole_end settings files).outcome ≢ outcome.Success) × ((whole_end settings files).outcome ≢ outcome.NoTestsRun)
 
 -- each test without end was skipped, and at least as many tests finished or were skipped as were announced
 pub record IsWhole (s : SuiteState) (tests : List RunningView) : Type 0 where
@@ -405,6 +406,6 @@ CleanEndIsWhole = (s : SuiteState) → (tests : List RunningView) → IsClean (l
 
 -- If cargo reports a failure while no suite is open, in a file that is not the output of a command, a test failed or a disagreement becomes known.
 abbrev pub CargoFailureShows : Type 0
-CargoFailureShows = (slow : ℕ) → (files : List (List EventView)) → (r : RunState) → (f : CargoFailure) → (line plain : List ℕ)
-    → (at : IsLineOf slow files r (CargoFails f line plain)) → r.suites ≡ [] → (run_at_end at).of_command ≡ false
-    → 0 < failed_in (all_notes slow files) + disagreements_in (all_notes slow files)
+CargoFailureShows = (settings : RunSettings) → (files : List (List EventView)) → (r : RunState) → (f : CargoFailure) → (line plain : List ℕ)
+    → (at : IsLineOf settings files r (CargoFails f line plain)) → r.suites ≡ [] → (run_at_end at).of_command ≡ false
+    → 0 < failed_in (all_notes settings files) + disagreements_in (all_notes settings files)

@@ -10,7 +10,7 @@ use Rattle.test_report_run_notes.specs.declared.note.RunEnd.{RunEnd}
 use Rattle.test_report_laws.specs.Run.{Agrees, IsClean, damaged_lines_of, events_in, failed_lines_of, failed_verdicts_of, not_run_in, passed_in, skipped_in}
 use Rattle.test_report_run.specs.Running.{RunningView}
 use Rattle.test_report_run.specs.Over.{last_notes}
-use Rattle.test_report_run.specs.Run.{RunState, counts_tests, is_cause, tests_in, open_suite, suite_at}
+use Rattle.test_report_run.specs.Run.{RunSettings, RunState, counts_tests, is_cause, open_suite, suite_at, tests_in}
 use Rattle.test_report_run.specs.Said.{numbers_of}
 use Rattle.test_report_run.specs.Suite.{SuiteState, cancelled_by, with_line}
 use Rattle.test_report_laws.specs.Whole.{IsFileEndOf, IsLineOf, all_notes, run_at_end, whole_end}
@@ -35,7 +35,8 @@ named_not_run (SuiteIs s) = 0
 
 -- Each test that was not run is in a note that names its suite.
 abbrev pub NotRunIsNamed : Type 0
-NotRunIsNamed = (slow : ℕ) → (files : List (List EventView)) → sum_by named_not_run (all_notes slow files) ≡ not_run_in (all_notes slow files)
+NotRunIsNamed = (settings : RunSettings) → (files : List (List EventView))
+    → sum_by named_not_run (all_notes settings files) ≡ not_run_in (all_notes settings files)
 
 -- the note is of a suite whose tests were not all run
 abbrev pub is_not_run : NoteView → Bool
@@ -51,9 +52,9 @@ is_reason note = is_cause note || is_not_run note
 
 -- A run that does not succeed has such a note, or no test of it ran.
 abbrev pub FailureHasReason : Type 0
-FailureHasReason = (slow : ℕ) → (files : List (List EventView)) → ¬ (Succeeds (whole_end slow files))
-    → ((note : NoteView) × Contains (all_notes slow files) note × IsTrue (is_reason note))
-    ⊎ (RanNoTests (whole_end slow files) × (passed_in (all_notes slow files) ≡ 0))
+FailureHasReason = (settings : RunSettings) → (files : List (List EventView)) → ¬ (Succeeds (whole_end settings files))
+    → ((note : NoteView) × Contains (all_notes settings files) note × IsTrue (is_reason note))
+    ⊎ (RanNoTests (whole_end settings files) × (passed_in (all_notes settings files) ≡ 0))
 
 -- What a run that succeeds has no line of.
 
@@ -79,8 +80,8 @@ announced_of files = sum_by (λ file. sum_by announced_by file) files
 
 -- At least as many tests finished, were skipped or were counted as not run as were announced.
 abbrev pub AnnouncedAreCounted : Type 0
-AnnouncedAreCounted = (slow : ℕ) → (files : List (List EventView))
-    → announced_of files ≤ (whole_end slow files).stats.finished_count + (whole_end slow files).skipped + (whole_end slow files).not_run
+AnnouncedAreCounted = (settings : RunSettings) → (files : List (List EventView))
+    → announced_of files ≤ (whole_end settings files).stats.finished_count + (whole_end settings files).skipped + (whole_end settings files).not_run
 
 -- the last line of a suite is in order, while these tests run: it has no failed verdict, counts no failed test, and counts the passed tests
 -- as they are; and each of the running tests was skipped
@@ -89,36 +90,36 @@ pub record EndsInOrder (s : SuiteState) (tests : List RunningView) : Type 0 wher
   pub no_test_lost : skipped_in (last_notes s tests) ≡ length tests
 
 -- nothing is wrong with the lines of a run
-pub record IsInOrder (slow : ℕ) (files : List (List EventView)) : Type 0 where
+pub record IsInOrder (settings : RunSettings) (files : List (List EventView)) : Type 0 where
   -- no test failed, no lines disagree, and no suite has tests that were not run
-  pub clean : IsClean (all_notes slow files)
+  pub clean : IsClean (all_notes settings files)
   -- no line says that a test failed, and no last line of a suite has a failed verdict
   pub no_failed_line : failed_lines_of files ≡ 0
   pub no_failed_verdict : failed_verdicts_of files ≡ 0
   -- no damaged line says that a test or a suite failed
   pub no_damaged_line : damaged_lines_of files ≡ 0
   -- each command ended with status 0
-  pub commands : (r : RunState) → IsFileEndOf slow files r → IfSome r.command (λ end. end ≡ WithStatus 0)
+  pub commands : (r : RunState) → IsFileEndOf settings files r → IfSome r.command (λ end. end ≡ WithStatus 0)
   -- each file has an event of a harness, other than the output of a command
-  pub events : (r : RunState) → (end : IsFileEndOf slow files r) → r.command ≡ None → 0 < events_in end.file
+  pub events : (r : RunState) → (end : IsFileEndOf settings files r) → r.command ≡ None → 0 < events_in end.file
   -- each last line that ends a suite says what the tests of the suite are
-  pub last_lines : (r : RunState) → (e : SuiteEndView) → (at : ℕ) → IsLineOf slow files r (SuiteEnds e) → open_suite r e.key ≡ Some at
+  pub last_lines : (r : RunState) → (e : SuiteEndView) → (at : ℕ) → IsLineOf settings files r (SuiteEnds e) → open_suite r e.key ≡ Some at
       → let s = cancelled_by r.cancel (with_line (suite_at r (Some at)) e) in s.open_lines ≡ 0 → EndsInOrder s (tests_in r s)
   -- a last line while its suite is not open counts no test that ran
-  pub stray_lines : (r : RunState) → (e : SuiteEndView) → IsLineOf slow files r (SuiteEnds e) → open_suite r e.key ≡ None → counts_tests e ≡ false
+  pub stray_lines : (r : RunState) → (e : SuiteEndView) → IsLineOf settings files r (SuiteEnds e) → open_suite r e.key ≡ None → counts_tests e ≡ false
   -- each suite ends by its last line: none is open when another one without key starts in its place, or at the end of a file
-  pub one_without_key : (r : RunState) → (count : Option ℕ) → IsLineOf slow files r (SuiteStarts None count) → open_suite r None ≡ None
-  pub none_open : (r : RunState) → IsFileEndOf slow files r → r.suites ≡ []
+  pub one_without_key : (r : RunState) → (count : Option ℕ) → IsLineOf settings files r (SuiteStarts None count) → open_suite r None ≡ None
+  pub none_open : (r : RunState) → IsFileEndOf settings files r → r.suites ≡ []
   -- no test starts outside of a suite
-  pub none_outside : (r : RunState) → IsFileEndOf slow files r → r.outside.started ≡ 0
+  pub none_outside : (r : RunState) → IsFileEndOf settings files r → r.outside.started ≡ 0
   -- at least as many tests finished or were skipped as were announced
-  pub announced : announced_of files ≤ (whole_end slow files).stats.finished_count + (whole_end slow files).skipped
+  pub announced : announced_of files ≤ (whole_end settings files).stats.finished_count + (whole_end settings files).skipped
   -- a failure of cargo is read only while a suite is open, when it is a print of a test, or in the output of a command
-  pub cargo : (r : RunState) → (f : CargoFailure) → (line plain : List ℕ) → (at : IsLineOf slow files r (CargoFails f line plain))
+  pub cargo : (r : RunState) → (f : CargoFailure) → (line plain : List ℕ) → (at : IsLineOf settings files r (CargoFails f line plain))
       → (run_at_end at).of_command ≡ false → r.suites ≢ []
 
 -- If a run succeeds, a test passed and nothing is wrong with its lines. If no test ran, no test passed, and nothing is wrong either.
 abbrev pub SuccessIsInOrder : Type 0
-SuccessIsInOrder = (slow : ℕ) → (files : List (List EventView))
-    → (Succeeds (whole_end slow files) → (0 < passed_in (all_notes slow files)) × IsInOrder slow files)
-    × (RanNoTests (whole_end slow files) → (passed_in (all_notes slow files) ≡ 0) × IsInOrder slow files)
+SuccessIsInOrder = (settings : RunSettings) → (files : List (List EventView))
+    → (Succeeds (whole_end settings files) → (0 < passed_in (all_notes settings files)) × IsInOrder settings files)
+    × (RanNoTests (whole_end settings files) → (passed_in (all_notes settings files) ≡ 0) × IsInOrder settings files)

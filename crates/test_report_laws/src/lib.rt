@@ -12,7 +12,8 @@
 //! ```rust
 //!     ensures in_order { IfOk result (λ success. IfSome (R.left source.old) (λ input.
 //!         (files : List (List EventView)) × AllZip HasEvents (file input ∷ []) files
-//!         × (IsTrue success ↔ Succeeds (whole_end 60000000 files)) × (IsTrue success → IsInOrder 60000000 files))) }
+//!         × (IsTrue success ↔ Succeeds (whole_end (run_settings 60000000 []) files))
+//!         × (IsTrue success → IsInOrder (run_settings 60000000 []) files))) }
 //! {
 //!     success_means();
 //!     let mut report = Report::new(alloc, TextForm::new(alloc, options), 60_000_000);

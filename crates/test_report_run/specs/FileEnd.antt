@@ -1,5 +1,5 @@
 -- The end of a file, and of a run.
-use Rattle.std.specs.Prelude.{◌-◌, ◌++◌, ◌==◌, ◌∷◌, ◌||◌, ◌&&◌, [], ℕ, List, Bool, true, false, length, map, nat_lt, not, if◌then◌else◌, None}
+use Rattle.std.specs.Prelude.{◌-◌, ◌++◌, ◌==◌, ◌∷◌, ◌||◌, ◌&&◌, [], ℕ, List, Bool, true, false, length, map, nat_lt, not, if◌then◌else◌, drop, slice_get, Option, None}
 use Rattle.std.specs.List.{fold}
 use Rattle.std.specs.Option.{option_map_or}
 use Rattle.test_report_events.specs.Event.{BySignal, CommandView, NotStarted, WithStatus}
@@ -24,11 +24,15 @@ held_told r =
     if ended_well r.command then step (record r { held = []; causes = r.causes - length r.held }) []
     else step (record r { held = [] }) (map (λ report. Disagrees (CargoSays report)) (held_reports r))
 
+-- the name of the file, if the run has several
+abbrev pub file_name : RunState → Option (List ℕ)
+file_name r = slice_get r.file_names 0
+
 -- a file disagrees if it has no event of a harness and nothing failed or disagreed in it, unless its command ended with status 0 or was not started
 abbrev pub no_event_notes : RunState → List NoteView
 no_event_notes r =
     if not r.has_event && (not (nat_lt r.causes_at_file r.causes) && not (ended_well r.command || was_not_started r.command))
-    then Disagrees HasNoEvent ∷ [] else []
+    then Disagrees (HasNoEvent (file_name r)) ∷ [] else []
 
 -- the open suites end early, and then the tests outside of a suite
 abbrev pub all_ended_early : RunState → Step
@@ -75,6 +79,7 @@ begun r = record r {
   names = [];
   causes_at_file = r.causes;
   causes_at_cargo = r.causes;
+  file_names = drop 1 r.file_names;
 }
 
 -- the run after the end of a file

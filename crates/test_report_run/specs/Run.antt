@@ -26,6 +26,15 @@ use Rattle.test_report_run.specs.SuiteNames.{names_of}
 use Rattle.test_report_run.specs.Totals.{no_suites, with_suite}
 use Rattle.test_report_run.specs.declared.run.TestRun.{TestRun}
 
+-- what is known of a run before its first line: the least time of a slow test, in microseconds, and the names of its files, if it has several
+pub record RunSettings : Type 0 where
+  pub slow : ℕ
+  pub file_names : List (List ℕ)
+
+-- the settings of a run with this time, and these names
+abbrev pub run_settings : ℕ → List (List ℕ) → RunSettings
+run_settings slow file_names = record { slow = slow; file_names = file_names }
+
 -- what is kept of a run
 pub record RunState : Type 0 where
   -- the tests of the file that started outside of a suite, and the open suites in the order of their first lines
@@ -66,6 +75,8 @@ pub record RunState : Type 0 where
   pub causes_at_cargo : ℕ
   -- the least time of a slow test, in microseconds
   pub slow : ℕ
+  -- the names of the file and of those after it, if the run has several
+  pub file_names : List (List ℕ)
 
 -- what a run keeps
 abbrev pub run_state : TestRun → RunState
@@ -94,11 +105,12 @@ run_state r = record {
   causes_at_file = r.causes_at_file;
   causes_at_cargo = r.causes_at_cargo;
   slow = r.slow;
+  file_names = map string_bytes r.file_names.items;
 }
 
--- a run before its first line, in which a test with at least this time is slow
-abbrev pub run_start : ℕ → RunState
-run_start slow = record {
+-- a run before its first line
+abbrev pub run_start : RunSettings → RunState
+run_start settings = record {
   outside = outside_start;
   suites = [];
   suites_started = 0;
@@ -122,7 +134,8 @@ run_start slow = record {
   causes = 0;
   causes_at_file = 0;
   causes_at_cargo = 0;
-  slow = slow;
+  slow = settings.slow;
+  file_names = settings.file_names;
 }
 
 -- a run after a line, and what the line makes known

@@ -11,7 +11,7 @@
 //! pub fn end_of_lines(alloc: Global, lines: &[&[u8]]) -> Result<RunEnd, RunError>
 //!     ensures { IfOk result (λ end. (events : List (List EventView))
 //!         × AllZip LineSays (map (λ line. line.now) lines.now) events
-//!         × (end ≡ end_of (after_file (fold run_after (run_start 60000000) events)))) }
+//!         × (end ≡ end_of (after_file (fold run_after (run_start (run_settings 60000000 [])) events)))) }
 //! {
 //!     let mut run = TestRun::new(alloc, 60_000_000);
 //!     for bytes in lines {

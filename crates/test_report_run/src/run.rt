@@ -1,14 +1,14 @@
 //! A test run that is followed line by line.
 
-ghost use Rattle.std.specs.Prelude.{◌≡◌, ◌++◌, ◌∷◌, [], IfOk, IsOk, OnOk, if◌then◌else◌, map, option_map, option_to_list};
+ghost use Rattle.std.specs.Prelude.{◌≡◌, ◌++◌, ◌∷◌, [], IfOk, IsOk, OnOk, if◌then◌else◌, map, option_map, option_to_list, string_bytes};
 ghost use Rattle.test_report_events.specs.Content.{events_of};
 ghost use Rattle.test_report_events.specs.Event.{event_view};
-ghost use Rattle.test_report_run_notes.specs.Note.{disagreement_view, is_new_disagreement, note_view};
+ghost use Rattle.test_report_run_notes.specs.Note.{disagreement_view, is_new_disagreement, note_view, text_view};
 ghost use Rattle.test_report_run.specs.Events.{is_after_report, is_event};
 ghost use Rattle.test_report_run.specs.Fits.{NotesFit, OnlyMemory};
 ghost use Rattle.test_report_run.specs.FileEnd as ends;
 ghost use Rattle.test_report_run.specs.Run as spec;
-ghost use Rattle.test_report_run.specs.Run.{run_state};
+ghost use Rattle.test_report_run.specs.Run.{run_settings, run_state};
 ghost use Rattle.test_report_run.specs.RunFits.{EachFits, EventFits, RunFits, SumsFit, ToldFits};
 
 mod command;
@@ -29,6 +29,7 @@ use crate::suite_names::SuiteNames;
 use crate::totals::Totals;
 use run_events_results::results::CancelReason;
 use std::alloc::{AllocError, Global};
+use std::collections::VecDeque;
 use std::rc::Rc;
 use test_report_events::event::Event;
 use test_report_events::line::Line;
@@ -93,12 +94,23 @@ pub struct TestRun {
 
     /// The least time of a slow test, in microseconds.
     slow: u64,
+
+    /// The names of the file and of those after it, if the run has several.
+    file_names: VecDeque<String>,
 }
 
 impl TestRun {
     /// Returns a run before its first line. A test whose time is at least `slow` microseconds is slow.
     pub fn new(alloc: Global, slow: u64) -> TestRun
-        ensures { run_state result ≡ spec.run_start slow }
+        ensures { run_state result ≡ spec.run_start (run_settings slow []) }
+    {
+        TestRun::with_file_names(alloc, slow, VecDeque::new(alloc))
+    }
+
+    /// Returns a run of several files before its first line. `file_names` are the names of the files, in the order in
+    /// which they are read. A test whose time is at least `slow` microseconds is slow.
+    pub fn with_file_names(alloc: Global, slow: u64, file_names: VecDeque<String>) -> TestRun
+        ensures { run_state result ≡ spec.run_start (run_settings slow (map string_bytes file_names.items)) }
     {
         TestRun {
             outside: Suite::outside(alloc),
@@ -123,6 +135,7 @@ impl TestRun {
             causes_at_file: 0,
             causes_at_cargo: 0,
             slow,
+            file_names,
         }
     }
 
@@ -220,6 +233,7 @@ impl TestRun {
         self.names = SuiteNames::new(alloc);
         self.causes_at_file = self.causes;
         self.causes_at_cargo = self.causes;
+        self.file_names.pop_front();
     }
 
     /// Returns the sums and the outcome of the whole run. Call it after `end_file` of the last file.
@@ -312,9 +326,20 @@ impl TestRun {
     {
         let explained = self.causes > self.causes_at_file || self.command_says_more();
         if !self.has_event && !explained {
-            notes.push(Note::Disagreement(Disagreement::NoEvent))?;
+            let file = self.file_name()?;
+            notes.push(Note::Disagreement(Disagreement::NoEvent { file }))?;
         }
         Ok(())
+    }
+
+    /// Returns the name of the file, if the run has several.
+    fn file_name(&self) -> Result<Option<String>, AllocError>
+        ensures { IfOk result (λ name. text_view name ≡ ends.file_name (run_state self.now)) }
+    {
+        match self.file_names.front() {
+            Some(name) => Ok(Some(name.clone()?)),
+            None => Ok(None),
+        }
     }
 
     /// Stores that a line is an event of a harness, and the number of causes if cargo reports a failure outside
@@ -383,7 +408,10 @@ impl TestRun {
 fn is_new(disagreement: &Disagreement) -> bool
     ensures { result ≡ is_new_disagreement (disagreement_view disagreement.now) }
 {
-    !matches!(disagreement, Disagreement::Cargo(_) | Disagreement::NoEvent)
+    !matches!(
+        disagreement,
+        Disagreement::Cargo(_) | Disagreement::NoEvent { .. }
+    )
 }
 
 /// Returns true if a line is an event of a harness.

@@ -81,7 +81,8 @@ pub data DisagreementView : Type 0 where
   StartsOutside : ℕ → DisagreementView
   CargoSays : CargoView → DisagreementView
   IsDamaged : List ℕ → DisagreementView
-  HasNoEvent : DisagreementView
+  -- of a file, which has a name if there are several
+  HasNoEvent : Option (List ℕ) → DisagreementView
   CommandFails : CommandView → DisagreementView
 
 -- a suite that is over
@@ -173,7 +174,7 @@ disagreement_view (disagreement.StraySuiteEnd key failed) = StraySuiteEnds (text
 disagreement_view (disagreement.OutsideSuite started) = StartsOutside started
 disagreement_view (disagreement.Cargo report) = CargoSays (cargo_view report)
 disagreement_view (disagreement.Damaged text) = IsDamaged (string_bytes text)
-disagreement_view disagreement.NoEvent = HasNoEvent
+disagreement_view (disagreement.NoEvent file) = HasNoEvent (text_view file)
 disagreement_view (disagreement.Command end) = CommandFails (command_view end)
 
 -- what the note of a suite says
@@ -218,7 +219,7 @@ is_new_disagreement (StraySuiteEnds key failed) = true
 is_new_disagreement (StartsOutside n) = true
 is_new_disagreement (CargoSays report) = false
 is_new_disagreement (IsDamaged text) = true
-is_new_disagreement HasNoEvent = false
+is_new_disagreement (HasNoEvent file) = false
 is_new_disagreement (CommandFails end) = true
 
 -- how many tests failed

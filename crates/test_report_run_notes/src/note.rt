@@ -195,7 +195,10 @@ pub enum Disagreement {
     },
 
     /// No line of a file is an event of a harness, and nothing failed or disagreed in it.
-    NoEvent,
+    NoEvent {
+        /// The name of the file, if the run has several.
+        file: Option<String>,
+    },
 
     /// The command of the run could not be started, ended by a signal, or ended with a status above 0 although
     /// nothing failed or disagreed.

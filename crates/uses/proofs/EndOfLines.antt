@@ -7,13 +7,13 @@ use Rattle.test_report_events.specs.Event.{EventView}
 use Rattle.test_report_events.specs.Line.{LineSays}
 use Rattle.test_report_run_notes.specs.declared.note.RunEnd.{RunEnd}
 use Rattle.test_report_run.specs.FileEnd.{after_file, end_of}
-use Rattle.test_report_run.specs.Run.{RunState, run_after, run_start}
+use Rattle.test_report_run.specs.Run.{RunState, run_after, run_settings, run_start}
 
 -- these lines have events, and this is the run after these events
 pub record IsRunOf (lines : List (List ℕ)) (run : RunState) : Type 0 where
   pub events : List (List EventView)
   pub say : AllZip LineSays lines events
-  pub is : run ≡ fold run_after (run_start 60000000) events
+  pub is : run ≡ fold run_after (run_start (run_settings 60000000 [])) events
 
 -- one more line, and its events
 says-more : (lines : List (List ℕ)) (events : List (List EventView)) (line : List ℕ) (own : List EventView) → AllZip LineSays lines events → LineSays line own
@@ -35,14 +35,14 @@ run-more lines i d own old new few run says step =
       say =
           subst (λ ls. AllZip LineSays ls (run.events ++ own ∷ [])) (sym seen)
           (says-more (map (λ l. l.now) (take i lines)) run.events line.now own run.say says);
-      is = step ∙ ap (λ r. run_after r own) run.is ∙ sym (fold-append run_after (run_start 60000000) run.events (own ∷ []));
+      is = step ∙ ap (λ r. run_after r own) run.is ∙ sym (fold-append run_after (run_start (run_settings 60000000 [])) run.events (own ∷ []));
     }
 
 -- the end of the run after all of these lines
 pub run-ends : (lines : List (Bor (List ℕ))) (i : ℕ) (run over : RunState) (end : RunEnd) → length lines ≤ i
     → IsRunOf (map (λ l. l.now) (take i lines)) run → over ≡ after_file run → end ≡ end_of over
     → (events : List (List EventView)) × AllZip LineSays (map (λ l. l.now) lines) events
-    × (end ≡ end_of (after_file (fold run_after (run_start 60000000) events)))
+    × (end ≡ end_of (after_file (fold run_after (run_start (run_settings 60000000 [])) events)))
 run-ends lines i run over end all of takes is = (
   of.events,
   subst (λ ls. AllZip LineSays (map (λ l. l.now) ls) of.events) (take_all i lines all) of.say,

@@ -250,7 +250,8 @@ fn report_in<F: Form>(
     form: F,
 ) -> Result<ExitCode, Failure> {
     let Settings { options, slow } = settings;
-    let report = Report::with_files(form, file_forms(matches, options), slow);
+    let files = file_forms(matches, options);
+    let report = Report::with_file_names(form, files, slow, input.file_names());
     let interrupt = catch_first_interrupt()?;
     let shows_progress = shows_progress(matches);
     let has_reader = shows_progress || io::stderr().is_terminal();

@@ -17,6 +17,7 @@ use crate::test_report_forms::files::FileTexts;
 use crate::test_report_forms::form::Form;
 use crate::test_report_run_notes::note::RunEnd;
 use std::cell::RefCell;
+use std::collections::VecDeque;
 use std::ffi::OsString;
 use std::fs::File;
 use std::io::{self, Read, Stderr, Write};
@@ -45,6 +46,22 @@ impl Input {
             Input::Files(files) => files,
             Input::Command(_) => &[],
         }
+    }
+
+    /// Returns the names of the files as the report shows them, if there are several.
+    pub fn file_names(&self) -> VecDeque<String> {
+        match self.files() {
+            [] | [_] => VecDeque::new(),
+            files => files.iter().map(|path| shown_path(path)).collect(),
+        }
+    }
+}
+
+/// Returns the name of a file as the report shows it.
+fn shown_path(path: &str) -> String {
+    match path {
+        STANDARD_INPUT => "standard input".to_string(),
+        _ => path.to_string(),
     }
 }
 

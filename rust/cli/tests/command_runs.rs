@@ -124,7 +124,7 @@ fn a_status_above_0_disagrees_if_nothing_says_why() {
     let end = CommandEnd::Status { code: 5 };
     let found = command_ends("printed\n", &end);
     let [
-        Disagreement::NoEvent,
+        Disagreement::NoEvent { file: None },
         Disagreement::Command(CommandEnd::Status { code }),
     ] = &found[..]
     else {

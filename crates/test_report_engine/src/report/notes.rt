@@ -129,6 +129,6 @@ fn is_of_no_suite(disagreement: &Disagreement) -> bool
 {
     matches!(
         disagreement,
-        Disagreement::Cargo(_) | Disagreement::NoEvent | Disagreement::Command(_)
+        Disagreement::Cargo(_) | Disagreement::NoEvent { .. } | Disagreement::Command(_)
     )
 }

@@ -9,6 +9,7 @@ ghost use Rattle.test_report_engine.specs.Report.{IsReport};
 ghost use Rattle.test_report_engine.specs.declared.fault.Fault.TheVariants as faults;
 ghost use Rattle.test_report_forms.specs.Form.{lines};
 ghost use Rattle.test_report_forms.specs.Text.{text_last, text_line};
+ghost use Rattle.test_report_run.specs.Run.{run_settings};
 
 use program_io::device::{Sink, Source};
 use run_events_stats::outcome::RunOutcome;
@@ -31,7 +32,7 @@ pub fn succeeds<R: Source, W: Sink>(
     requires sink_works { W.failed sink.old ≡ false }
     ensures reports { IfOk result (λ success. IfSome (R.left source.old) (λ input.
         (text : List ℕ) × (end : RunEnd)
-        × IsReport 60000000 (lines text_line (λ o entry. []) options) (text_last options) (file input ∷ []) text end
+        × IsReport (run_settings 60000000 []) (lines text_line (λ o entry. []) options) (text_last options) (file input ∷ []) text end
         × Appends (W.written sink.old) (W.written sink.new) text
         × (IsTrue success ↔ (end.outcome ≡ outcomes.Success)))) }
     ensures read { IsErrOf result faults.Read ↔ (R.failed source.new ≡ true) }

@@ -7,6 +7,7 @@ ghost use Rattle.test_report_engine.specs.Lines.{file};
 ghost use Rattle.test_report_laws.specs.Report.{HasEvents};
 ghost use Rattle.test_report_laws.specs.Status.{IsInOrder, Succeeds};
 ghost use Rattle.test_report_laws.specs.Whole.{whole_end};
+ghost use Rattle.test_report_run.specs.Run.{run_settings};
 
 use program_io::device::{Sink, Source};
 use run_events_stats::outcome::RunOutcome;
@@ -31,7 +32,8 @@ pub fn succeeds_in_order<R: Source, W: Sink>(
     requires sink_works { W.failed sink.old ≡ false }
     ensures in_order { IfOk result (λ success. IfSome (R.left source.old) (λ input.
         (files : List (List EventView)) × AllZip HasEvents (file input ∷ []) files
-        × (IsTrue success ↔ Succeeds (whole_end 60000000 files)) × (IsTrue success → IsInOrder 60000000 files))) }
+        × (IsTrue success ↔ Succeeds (whole_end (run_settings 60000000 []) files))
+        × (IsTrue success → IsInOrder (run_settings 60000000 []) files))) }
 {
     success_means();
     let mut report = Report::new(alloc, TextForm::new(alloc, options), 60_000_000);

@@ -1,11 +1,11 @@
 //! The caller that the page on calling `test_report_run` shows.
 
-ghost use Rattle.std.specs.Prelude.{◌≡◌, IfOk, List, map};
+ghost use Rattle.std.specs.Prelude.{◌≡◌, [], IfOk, List, map};
 ghost use Rattle.std.specs.List.{AllZip, fold};
 ghost use Rattle.test_report_events.specs.Event.{EventView};
 ghost use Rattle.test_report_events.specs.Line.{LineSays};
 ghost use Rattle.test_report_run.specs.FileEnd.{after_file, end_of};
-ghost use Rattle.test_report_run.specs.Run.{run_after, run_start};
+ghost use Rattle.test_report_run.specs.Run.{run_after, run_settings, run_start};
 
 use std::alloc::Global;
 use test_report_events::line::Line;
@@ -17,7 +17,7 @@ use test_report_run_notes::note::RunEnd;
 pub fn end_of_lines(alloc: Global, lines: &[&[u8]]) -> Result<RunEnd, RunError>
     ensures { IfOk result (λ end. (events : List (List EventView))
         × AllZip LineSays (map (λ line. line.now) lines.now) events
-        × (end ≡ end_of (after_file (fold run_after (run_start 60000000) events)))) }
+        × (end ≡ end_of (after_file (fold run_after (run_start (run_settings 60000000 [])) events)))) }
 {
     let mut run = TestRun::new(alloc, 60_000_000);
     for bytes in lines {

@@ -16,6 +16,7 @@ use crate::test_report_run::suite_names::SuiteNames;
 use crate::test_report_run_notes::note::{CommandEnd, Note, RunEnd};
 use bstr::ByteSlice;
 use deodarsieve::CancelReason;
+use std::collections::VecDeque;
 
 /// The number of bytes that are read at once.
 const CHUNK: usize = 16_384;
@@ -38,8 +39,19 @@ impl<F: Form> Report<F> {
     /// `file_texts` returns them after the last file of the run. A test whose time is at least `slow` microseconds
     /// is slow.
     pub fn with_files(form: F, files: FileForms, slow: u64) -> Report<F> {
+        Report::with_file_names(form, files, slow, VecDeque::new())
+    }
+
+    /// Returns the same, for a run of several files with these names, in the order in which they are read. A file
+    /// without events is reported by its name.
+    pub fn with_file_names(
+        form: F,
+        files: FileForms,
+        slow: u64,
+        file_names: VecDeque<String>,
+    ) -> Report<F> {
         Report {
-            run: TestRun::new(slow),
+            run: TestRun::with_file_names(slow, file_names),
             form,
             files,
         }

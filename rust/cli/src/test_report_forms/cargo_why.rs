@@ -16,7 +16,7 @@ pub(crate) fn disagreement_why(disagreement: &Disagreement) -> Option<String> {
         | Disagreement::StraySuiteEnd { .. }
         | Disagreement::OutsideSuite { .. }
         | Disagreement::Damaged { .. }
-        | Disagreement::NoEvent
+        | Disagreement::NoEvent { .. }
         | Disagreement::Command(_) => None,
     }
 }

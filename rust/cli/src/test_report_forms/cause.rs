@@ -101,7 +101,7 @@ fn suite_of(disagreement: &Disagreement) -> Option<&Rc<String>> {
         | Disagreement::OutsideSuite { .. }
         | Disagreement::Cargo(_)
         | Disagreement::Damaged { .. }
-        | Disagreement::NoEvent
+        | Disagreement::NoEvent { .. }
         | Disagreement::Command(_) => None,
     }
 }
@@ -110,7 +110,7 @@ fn suite_of(disagreement: &Disagreement) -> Option<&Rc<String>> {
 fn lacks_events(disagreement: &Disagreement) -> bool {
     match disagreement {
         Disagreement::Cargo(report) => report.lacks_events,
-        Disagreement::NoEvent => true,
+        Disagreement::NoEvent { .. } => true,
         Disagreement::EndedEarly { .. }
         | Disagreement::LastLine { .. }
         | Disagreement::StrayEnd { .. }
@@ -176,11 +176,23 @@ fn push_disagreement(text: &mut String, disagreement: &Disagreement) {
             text.push_str("a damaged line says that a test or a suite failed: ");
             push_line(text, line.as_str());
         }
-        Disagreement::NoEvent => text.push_str("no line of the input is of a test run"),
+        Disagreement::NoEvent { file } => {
+            text.push_str("no line of ");
+            push_input(text, file);
+            text.push_str(" is of a test run");
+        }
         Disagreement::Command(end) => {
             text.push_str("the command ");
             push_command_end(text, end);
         }
+    }
+}
+
+/// Appends the name of a file, or `the input` if the run has only one.
+fn push_input(text: &mut String, file: &Option<String>) {
+    match file {
+        Some(file) => push_name(text, file.as_str()),
+        None => text.push_str("the input"),
     }
 }
 

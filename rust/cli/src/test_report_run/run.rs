@@ -23,6 +23,7 @@ use crate::test_report_run_notes::note::{
     CargoReport, CommandEnd, Disagreement, Note, RunEnd, TestOutcome,
 };
 use deodarsieve::CancelReason;
+use std::collections::VecDeque;
 use std::rc::Rc;
 
 /// A test run, up to the line that was passed last.
@@ -82,11 +83,20 @@ pub struct TestRun {
 
     /// The least time of a slow test, in microseconds.
     slow: u64,
+
+    /// The names of the file and of those after it, if the run has several.
+    file_names: VecDeque<String>,
 }
 
 impl TestRun {
     /// Returns a run before its first line. A test whose time is at least `slow` microseconds is slow.
     pub fn new(slow: u64) -> TestRun {
+        TestRun::with_file_names(slow, VecDeque::new())
+    }
+
+    /// Returns a run of several files before its first line. `file_names` are the names of the files, in the order in
+    /// which they are read. A test whose time is at least `slow` microseconds is slow.
+    pub fn with_file_names(slow: u64, file_names: VecDeque<String>) -> TestRun {
         TestRun {
             outside: Suite::outside(),
             suites: OpenSuites::new(),
@@ -110,6 +120,7 @@ impl TestRun {
             causes_at_file: 0,
             causes_at_cargo: 0,
             slow,
+            file_names,
         }
     }
 
@@ -183,6 +194,7 @@ impl TestRun {
         self.names = SuiteNames::new();
         self.causes_at_file = self.causes;
         self.causes_at_cargo = self.causes;
+        self.file_names.pop_front();
     }
 
     /// Returns the sums and the outcome of the whole run. Call it after `end_file` of the last file.
@@ -239,8 +251,14 @@ impl TestRun {
     fn push_no_event(&self, notes: &mut Vec<Note>) {
         let explained = self.causes > self.causes_at_file || self.command_says_more();
         if !self.has_event && !explained {
-            notes.push(Note::Disagreement(Disagreement::NoEvent));
+            let file = self.file_name();
+            notes.push(Note::Disagreement(Disagreement::NoEvent { file }));
         }
+    }
+
+    /// Returns the name of the file, if the run has several.
+    fn file_name(&self) -> Option<String> {
+        self.file_names.front().cloned()
     }
 
     /// Stores that a line is an event of a harness, and the number of causes if cargo reports a failure outside
@@ -294,7 +312,10 @@ impl TestRun {
 /// Returns true if a disagreement is counted among the causes when it becomes known. A failure of cargo is counted at
 /// its line, and that a file has no event explains nothing.
 fn is_new(disagreement: &Disagreement) -> bool {
-    !matches!(disagreement, Disagreement::Cargo(_) | Disagreement::NoEvent)
+    !matches!(
+        disagreement,
+        Disagreement::Cargo(_) | Disagreement::NoEvent { .. }
+    )
 }
 
 /// Returns true if a line is an event of a harness.

@@ -79,6 +79,6 @@ fn ends_part(note: &Note) -> bool {
 fn is_of_no_suite(disagreement: &Disagreement) -> bool {
     matches!(
         disagreement,
-        Disagreement::Cargo(_) | Disagreement::NoEvent | Disagreement::Command(_)
+        Disagreement::Cargo(_) | Disagreement::NoEvent { .. } | Disagreement::Command(_)
     )
 }
