@@ -8,6 +8,8 @@ use std::fs::{self, OpenOptions};
 use std::io::Write;
 use std::os::unix::process::ExitStatusExt;
 use std::process::{Child, ChildStderr, Command, ExitStatus};
+use std::thread;
+use std::time::Duration;
 
 /// The first lines of a run: a test that fails.
 const FAILED: &str = r#"{ "type": "suite", "event": "started", "test_count": 2 }
@@ -52,6 +54,11 @@ fn end_of(mut child: Child) -> ExitStatus {
     soon("the end of the program", move || child.wait()).expect("the program can be waited for")
 }
 
+/// Waits until the first signal is over, so that the next one is a second one.
+fn wait_for_end_of_first() {
+    thread::sleep(Duration::from_millis(500));
+}
+
 /// Sends a signal to a program.
 fn send(signal: &str, child: &Child) {
     let script = format!("kill -s {signal} {}", child.id());
@@ -88,6 +95,30 @@ fn the_first_signal_leaves_the_summary_and_the_files() {
 }
 
 #[test]
+fn two_signals_at_once_are_one() {
+    for (signal, again) in [("INT", "INT"), ("TERM", "TERM"), ("INT", "TERM")] {
+        let mut running = start(&[]);
+        running
+            .stdin
+            .write_all(FAILED.as_bytes())
+            .expect("the program reads");
+        let (first, stdout) = read_until(running.stdout, "    Error: no such currency\n");
+        let script = format!("kill -s {signal} $0; kill -s {again} $0");
+        let id = running.child.id().to_string();
+        let status = Command::new("sh").args(["-c", &script, &id]).status();
+        assert!(status.expect("a shell runs").success(), "{signal}");
+        running
+            .stdin
+            .write_all(LATER.as_bytes())
+            .expect("the program still reads");
+        drop(running.stdin);
+        let (rest, _) = read_until(stdout, "outcome failed\n");
+        assert_eq!([first, rest].concat(), report_after(signal));
+        assert_eq!(end_of(running.child).code(), Some(1), "{signal}");
+    }
+}
+
+#[test]
 fn a_second_signal_ends_the_program() {
     for (first, second, number) in [("INT", "INT", 2), ("TERM", "TERM", 15), ("INT", "TERM", 15)] {
         let mut running = start(&["--progress", "always"]);
@@ -98,6 +129,7 @@ fn a_second_signal_ends_the_program() {
         let stderr = wait_for(running.stderr, "1 of 2 tests, 1 failed");
         send(first, &running.child);
         let stderr = wait_for(stderr, STILL_READING);
+        wait_for_end_of_first();
         send(second, &running.child);
         let status = end_of(running.child);
         assert_eq!(status.signal(), Some(number), "{first} {second}");
@@ -256,6 +288,7 @@ fn a_second_signal_ends_the_program_before_its_command() {
         let (_, stdout) = read_until(running.stdout, "    Error: no such currency\n");
         send(first, &running.child);
         let stderr = wait_for(running.stderr, STILL_READING);
+        wait_for_end_of_first();
         send(second, &running.child);
         assert_eq!(end_of(running.child).signal(), Some(number));
         drop((running.stdin, stdout, stderr));
