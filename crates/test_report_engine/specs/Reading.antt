@@ -27,7 +27,7 @@ pub record FilesTake (old new : FileForms) (entries : List EntryView) : Type 0 w
   pub know : (known : List EntryView) → FilesKnow old known → FilesKnow new (known ++ entries)
   pub say : SaysAs new old
 
--- a report whose forms of files were these at first has read these inputs. A test is slow from this time on
+-- a report of a run with these settings, whose forms of files were these at first, has read these inputs
 pub record FilesHaveRead {F : Type 0} (settings : RunSettings) (files : FileForms) (report : Report F) (inputs : List InputView) : Type 0 where
   pub entries : List (List EntryView)
   pub are : AreEntriesOf settings inputs entries (run_of report.run)
@@ -77,7 +77,7 @@ pub record TakesLine (old new : TestRun) (bytes : List ℕ) (notes : List NoteVi
   pub tells : notes ≡ line_notes (run_of old) events
 
 module _ {F : Type 0} (line : F → List EntryView → List ℕ) (last : F → List EntryView → RunEnd → List ℕ) (Knows : F → List EntryView → Type 0) where
-  -- a report whose form was this at first has read these inputs, and written this. A test is slow from this time on
+  -- a report of a run with these settings, whose form was this at first, has read these inputs, and written this
   pub record HasRead (settings : RunSettings) (form : F) (report : Report F) (inputs : List InputView) (written : List ℕ) : Type 0 where
     pub entries : List (List EntryView)
     pub are : AreEntriesOf settings inputs entries (run_of report.run)

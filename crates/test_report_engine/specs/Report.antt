@@ -102,8 +102,8 @@ notes_of_inputs run (lines ∷ inputs) = notes_of_input run lines ++ notes_of_in
 abbrev pub all_entries : List (List EntryView) → List EntryView
 all_entries entries = flat_map (λ line. line) entries
 
--- these are the entries of the run that inputs describe, of each line and of each part of the end of an input a list, and the run after them. A test is
--- slow from this time on
+-- these are the entries of the run with these settings that inputs describe, of each line and of each part of the end of an input a list, and the run
+-- after them
 pub record AreEntriesOf (settings : RunSettings) (inputs : List InputView) (entries : List (List EntryView)) (run : RunState) : Type 0 where
   pub events : List (List (List EventView))
   pub say : AllZip AreEventsOf inputs events
@@ -120,8 +120,7 @@ pub record AreLinesOf (settings : RunSettings) (line : List EntryView → List �
 -- this is the report of inputs, and the end of the run: the text of the entries of each line and of each part of the end of an input, and then the end of
 -- the report
 pub record IsReport (settings : RunSettings) (line : List EntryView → List ℕ) (last : List EntryView → RunEnd → List ℕ) (inputs : List InputView)
-    (text : List ℕ)
-    (end : RunEnd) : Type 0 where
+    (text : List ℕ) (end : RunEnd) : Type 0 where
   pub entries : List (List EntryView)
   pub run : RunState
   pub are : AreEntriesOf settings inputs entries run
