@@ -9,20 +9,14 @@ use std::sync::atomic::{AtomicBool, Ordering};
 use std::thread;
 use std::time::Duration;
 
-/// For how long the signals after the first one are part of it. `timeout` sends a signal to its command and then to
-/// the group of processes, so the program gets it twice.
-const SAME_SIGNAL: Duration = Duration::from_millis(200);
-
-/// How often the program looks whether the first signal has come.
-const PAUSE: Duration = Duration::from_millis(50);
+/// How long a signal lasts. Until it is over, further signals do not end the program, because `timeout` sends a signal
+/// to its command and then to the group of processes, and so the program can get it twice.
+const DURATION: Duration = Duration::from_millis(200);
 
 /// Whether the user or the system asked the program to end.
 #[derive(Debug)]
 pub struct Interrupt {
     has_come: Arc<AtomicBool>,
-
-    /// True if the next signal ends the program.
-    is_over: Arc<AtomicBool>,
 
     /// True if Ctrl-C came.
     is_interrupted: Arc<AtomicBool>,
@@ -30,48 +24,41 @@ pub struct Interrupt {
     /// True if SIGTERM came.
     is_terminated: Arc<AtomicBool>,
 
-    /// True if SIGTERM came and nobody took it yet.
-    is_to_send_on: Arc<AtomicBool>,
+    /// True if SIGTERM was sent on.
+    is_sent_on: AtomicBool,
 }
 
 impl Interrupt {
-    /// From now on the first Ctrl-C or SIGTERM does not end the program. A second one ends it by the default action of
-    /// the signal, unless it comes at once.
+    /// From now on the first Ctrl-C or SIGTERM does not end the program. One that comes more than 0.2 seconds later ends
+    /// it by the default action of the signal.
     ///
-    /// Fails if the system refuses a handler or a thread.
+    /// Fails if the system refuses a handler, a pipe or a thread.
     pub fn catch_first() -> io::Result<Interrupt> {
         let interrupt = Interrupt {
             has_come: Arc::default(),
-            is_over: Arc::default(),
             is_interrupted: Arc::default(),
             is_terminated: Arc::default(),
-            is_to_send_on: Arc::default(),
+            is_sent_on: AtomicBool::default(),
         };
+        let is_over = Arc::default();
         // The actions for a signal run in the order in which they are registered.
         for (signal, is_this) in [
             (SIGINT, &interrupt.is_interrupted),
             (SIGTERM, &interrupt.is_terminated),
         ] {
-            register_conditional_default(signal, Arc::clone(&interrupt.is_over))?;
+            register_conditional_default(signal, Arc::clone(&is_over))?;
             register(signal, Arc::clone(is_this))?;
             register(signal, Arc::clone(&interrupt.has_come))?;
         }
-        register(SIGTERM, Arc::clone(&interrupt.is_to_send_on))?;
-        interrupt.wait_for_end_of_first()?;
-        Ok(interrupt)
-    }
-
-    /// Starts a thread that notes when the first signal is over. The program may be blocked by a device then.
-    fn wait_for_end_of_first(&self) -> io::Result<()> {
-        let (has_come, is_over) = (Arc::clone(&self.has_come), Arc::clone(&self.is_over));
-        let wait = move || {
-            while !has_come.load(Ordering::SeqCst) {
-                thread::sleep(PAUSE);
-            }
-            thread::sleep(SAME_SIGNAL);
+        let wait_for_first = waiter(Arc::clone(&interrupt.has_come))?;
+        // The main thread may be blocked by a device when the signal is over.
+        let note_end = move || {
+            wait_for_first();
+            thread::sleep(DURATION);
             is_over.store(true, Ordering::SeqCst);
         };
-        thread::Builder::new().spawn(wait).map(drop)
+        thread::Builder::new().spawn(note_end)?;
+        Ok(interrupt)
     }
 
     /// Returns true if the first signal has come.
@@ -79,7 +66,7 @@ impl Interrupt {
         self.has_come.load(Ordering::SeqCst)
     }
 
-    /// Returns why the run is cancelled, if the first signal has come.
+    /// Returns why the run is cancelled, if a signal has come. If both came, this is the more severe reason, Ctrl-C.
     pub fn reason(&self) -> Option<CancelReason> {
         if self.is_interrupted.load(Ordering::SeqCst) {
             Some(CancelReason::Interrupt)
@@ -90,7 +77,7 @@ impl Interrupt {
         }
     }
 
-    /// Returns the number of the first signal, if it has come.
+    /// Returns the number of the signal that cancels the run, if one has come.
     pub fn signal(&self) -> Option<u32> {
         let signal = match self.reason()? {
             CancelReason::Interrupt => SIGINT,
@@ -101,6 +88,31 @@ impl Interrupt {
 
     /// Returns true, once, if SIGTERM has come.
     pub fn take_terminate(&self) -> bool {
-        self.is_to_send_on.swap(false, Ordering::SeqCst)
+        self.is_terminated.load(Ordering::SeqCst) && !self.is_sent_on.swap(true, Ordering::SeqCst)
     }
+}
+
+/// Returns a function that returns when the first signal has come.
+#[cfg(unix)]
+fn waiter(_has_come: Arc<AtomicBool>) -> io::Result<impl FnOnce() + Send + 'static> {
+    use std::io::Read;
+    use std::os::unix::net::UnixStream;
+    let (mut woken, waker) = UnixStream::pair()?;
+    for signal in [SIGINT, SIGTERM] {
+        signal_hook::low_level::pipe::register(signal, waker.try_clone()?)?;
+    }
+    Ok(move || {
+        // The handlers keep the other end open, so this returns after a signal.
+        let _ = woken.read(&mut [0]);
+    })
+}
+
+/// Returns a function that returns when the first signal has come.
+#[cfg(not(unix))]
+fn waiter(has_come: Arc<AtomicBool>) -> io::Result<impl FnOnce() + Send + 'static> {
+    Ok(move || {
+        while !has_come.load(Ordering::SeqCst) {
+            thread::sleep(DURATION);
+        }
+    })
 }
