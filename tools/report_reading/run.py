@@ -43,16 +43,16 @@ class Run:
             Damage: self.on_damage,
         }
 
-    def read_file(self, data):
-        """Takes the bytes of a file."""
+    def read_file(self, data, name):
+        """Takes the bytes of a file with this name."""
         self.now = OpenSuites()
         self.explained_before_file = self.explained_before_failure = self.explanations
         for event in events_of(data):
             self.now.has_event |= not isinstance(event, (Heading, CargoFailure, Damage))
             self.takes[type(event)](event)
-        self.end_file()
+        self.end_file(name)
 
-    def end_file(self):
+    def end_file(self, name):
         """Closes the open suites in the order of their first lines, then the part without suite."""
         for suite in self.now.all_open():
             self.close(suite, ended_early=True)
@@ -60,7 +60,7 @@ class Run:
             self.parts.append(self.now.part)
             self.close(self.now.part, ended_early=True)
         if not self.now.has_event and self.explanations == self.explained_before_file:
-            self.disagree("no line of the input is of a test run")
+            self.disagree(f"no line of {name} is of a test run")
 
     def failed(self, tests):
         """Notes failed tests."""
@@ -230,5 +230,5 @@ def read(paths):
     run = Run()
     for path in paths:
         with open(path, "rb") as file:
-            run.read_file(file.read())
+            run.read_file(file.read(), "the input" if len(paths) == 1 else path)
     return run

@@ -5,10 +5,9 @@ ghost use Rattle.std.specs.Io.KnownBytes.{IsAtEnd};
 ghost use Rattle.test_report_events.specs.Event.{Cancels, CommandView, EventView};
 ghost use Rattle.test_report_events.specs.Line.{LineSays};
 ghost use Rattle.test_report_run_notes.specs.Note.{command_view, note_view};
-ghost use Rattle.test_report_forms.specs.Files.{FilesKnow};
 ghost use Rattle.test_report_forms.specs.Form.{lines};
 ghost use Rattle.test_report_forms.specs.declared.files.FileForms.{FileForms};
-ghost use Rattle.test_report_run.specs.Run.{RunSettings, after, run_settings, run_state};
+ghost use Rattle.test_report_run.specs.Run.{RunSettings, after, run_state};
 ghost use Rattle.test_report_run.specs.SuiteNames.{names_of};
 ghost use Rattle.test_report_engine.specs.Fits.{LineEventsFit, NotFull};
 ghost use Rattle.test_report_engine.specs.Lines.{InputView, IsOneLine, file};
@@ -17,6 +16,7 @@ ghost use Rattle.test_report_engine.specs.Report.{AreTexts, line_notes, parts, r
 ghost use Rattle.test_report_engine.specs.declared.fault.Fault.TheVariants as faults;
 
 mod notes;
+mod start;
 
 use crate::fault::Fault;
 use crate::pieces::Pieces;
@@ -26,7 +26,6 @@ use program_io::device::{Sink, Source};
 use program_io::transfer::write_all;
 use run_events_results::results::CancelReason;
 use std::alloc::{AllocError, Global};
-use std::collections::VecDeque;
 use test_report_forms::entry::Entry;
 use test_report_forms::files::{FileForms, FileTexts};
 use test_report_forms::form::Form;
@@ -48,47 +47,6 @@ pub struct Report<F: Form> {
 impl<F: Form + Drop> Report<F> {
     ghost use Rattle.test_report_engine.specs.Others as second;
     ghost use Rattle.test_report_engine.specs.Reading as reading;
-
-    /// Returns a report that has read and written nothing. A test whose time is at least `slow` microseconds is
-    /// slow.
-    pub fn new(alloc: Global, form: F, slow: u64) -> Report<F>
-        ensures reads { F.Knows form [] → reading.HasRead (lines F.line F.line_end) F.last F.Knows
-            (run_settings slow []) form result [] [] }
-    {
-        Report::with_files(alloc, form, FileForms::none(), slow)
-    }
-
-    /// Returns a report that has read and written nothing. It keeps what the texts of these files need, and
-    /// `file_texts` returns them after the last file of the run. A test whose time is at least `slow` microseconds
-    /// is slow.
-    pub fn with_files(alloc: Global, form: F, files: FileForms, slow: u64) -> Report<F>
-        ensures reads { F.Knows form [] → reading.HasRead (lines F.line F.line_end) F.last F.Knows
-            (run_settings slow []) form result [] [] }
-        ensures files { FilesKnow files [] → reading.FilesHaveRead (run_settings slow []) files result [] }
-    {
-        Report::with_file_names(alloc, form, files, slow, VecDeque::new(alloc))
-    }
-
-    /// Returns the same, for a run of several files with these names, in the order in which they are read. A file
-    /// without events is reported by its name.
-    pub fn with_file_names(
-        alloc: Global,
-        form: F,
-        files: FileForms,
-        slow: u64,
-        file_names: VecDeque<String>,
-    ) -> Report<F>
-        ensures reads { F.Knows form [] → reading.HasRead (lines F.line F.line_end) F.last F.Knows
-            (run_settings slow (map string_bytes file_names.items)) form result [] [] }
-        ensures files { FilesKnow files []
-            → reading.FilesHaveRead (run_settings slow (map string_bytes file_names.items)) files result [] }
-    {
-        Report {
-            run: TestRun::with_file_names(alloc, slow, file_names),
-            form,
-            files,
-        }
-    }
 
     /// Reads a file of the run to its end. If a line makes something known, the report writes it and flushes
     /// the sink before it takes the next line.

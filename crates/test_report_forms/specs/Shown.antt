@@ -60,7 +60,7 @@ whole_text text = shown_text false (without_returns text)
 abbrev pub dots : Bool → List ℕ
 dots is_cut = if is_cut then codes ".." else []
 
--- the name of a suite or a test as it is shown: at most its first 1,024 bytes
+-- the name of a suite, a test or a file as it is shown: at most its first 1,024 bytes
 unfoldable pub shown_name : List ℕ → List ℕ
 shown_name name = shown_line (front name 1024) ++ dots (nat_lt 1024 (length name))
 

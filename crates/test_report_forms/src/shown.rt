@@ -13,7 +13,7 @@ use std::alloc::{AllocError, Global};
 use std::fmt::Write;
 use template::shown::{is_escaped, push_escape};
 
-/// The most bytes of the name of a suite or a test that are shown.
+/// The most bytes of the name of a suite, a test or a file that are shown.
 const NAME_LIMIT: usize = 1_024;
 
 /// Appends a character, as an escape such as `\u{1b}` if `escaped` is true.
@@ -72,8 +72,8 @@ fn has_escape(c: char, rest: &str, at_front: bool, one_line: bool) -> bool
     begins_command(c, rest, at_front) || is_control(c, one_line)
 }
 
-/// Appends the name of a suite or a test: at most its first 1,024 bytes, cut at a character, and `..` if it is
-/// longer.
+/// Appends the name of a suite, a test or a file: at most its first 1,024 bytes, cut at a character, and `..` if it
+/// is longer.
 #[tactic(auto, unfolding(crate::specs::Shown::shown_name))]
 pub fn push_name(text: &mut String, name: &str) -> Result<(), AllocError>
     ensures { OnOk result (string_bytes text.new ≡ string_bytes text.old ++ spec.shown_name name.now) }

@@ -24,7 +24,7 @@ held_told r =
     if ended_well r.command then step (record r { held = []; causes = r.causes - length r.held }) []
     else step (record r { held = [] }) (map (λ report. Disagrees (CargoSays report)) (held_reports r))
 
--- the name of the file, if the run has several
+-- the name of the file, if the files of the run have names
 abbrev pub file_name : RunState → Option (List ℕ)
 file_name r = slice_get r.file_names 0
 

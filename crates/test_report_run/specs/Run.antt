@@ -26,7 +26,8 @@ use Rattle.test_report_run.specs.SuiteNames.{names_of}
 use Rattle.test_report_run.specs.Totals.{no_suites, with_suite}
 use Rattle.test_report_run.specs.declared.run.TestRun.{TestRun}
 
--- what is known of a run before its first line: the least time of a slow test, in microseconds, and the names of its files, if it has several
+-- what is known of a run before its first line: the least time of a slow test, in microseconds, and the names of its files. There are none if the run
+-- has only one file
 pub record RunSettings : Type 0 where
   pub slow : ℕ
   pub file_names : List (List ℕ)
@@ -75,7 +76,7 @@ pub record RunState : Type 0 where
   pub causes_at_cargo : ℕ
   -- the least time of a slow test, in microseconds
   pub slow : ℕ
-  -- the names of the file and of those after it, if the run has several
+  -- the names of this file and of those after it. There are none if the run has only one file
   pub file_names : List (List ℕ)
 
 -- what a run keeps

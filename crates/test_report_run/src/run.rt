@@ -95,7 +95,7 @@ pub struct TestRun {
     /// The least time of a slow test, in microseconds.
     slow: u64,
 
-    /// The names of the file and of those after it, if the run has several.
+    /// The names of this file and of those after it. There are none if the run has only one file.
     file_names: VecDeque<String>,
 }
 
@@ -332,7 +332,7 @@ impl TestRun {
         Ok(())
     }
 
-    /// Returns the name of the file, if the run has several.
+    /// Returns the name of the file, if the files of the run have names.
     fn file_name(&self) -> Result<Option<String>, AllocError>
         ensures { IfOk result (λ name. text_view name ≡ ends.file_name (run_state self.now)) }
     {

@@ -81,7 +81,7 @@ pub data DisagreementView : Type 0 where
   StartsOutside : ℕ → DisagreementView
   CargoSays : CargoView → DisagreementView
   IsDamaged : List ℕ → DisagreementView
-  -- of a file, which has a name if there are several
+  -- the name of the file, if the files of the run have names
   HasNoEvent : Option (List ℕ) → DisagreementView
   CommandFails : CommandView → DisagreementView
 

@@ -2,6 +2,7 @@
 //! A report that is written while its run is read.
 
 mod notes;
+mod start;
 
 use crate::program_io::device::{Sink, Source};
 use crate::program_io::transfer::write_all;
@@ -16,7 +17,6 @@ use crate::test_report_run::suite_names::SuiteNames;
 use crate::test_report_run_notes::note::{CommandEnd, Note, RunEnd};
 use bstr::ByteSlice;
 use deodarsieve::CancelReason;
-use std::collections::VecDeque;
 
 /// The number of bytes that are read at once.
 const CHUNK: usize = 16_384;
@@ -29,34 +29,6 @@ pub struct Report<F: Form> {
 }
 
 impl<F: Form> Report<F> {
-    /// Returns a report that has read and written nothing. A test whose time is at least `slow` microseconds is
-    /// slow.
-    pub fn new(form: F, slow: u64) -> Report<F> {
-        Report::with_files(form, FileForms::none(), slow)
-    }
-
-    /// Returns a report that has read and written nothing. It keeps what the texts of these files need, and
-    /// `file_texts` returns them after the last file of the run. A test whose time is at least `slow` microseconds
-    /// is slow.
-    pub fn with_files(form: F, files: FileForms, slow: u64) -> Report<F> {
-        Report::with_file_names(form, files, slow, VecDeque::new())
-    }
-
-    /// Returns the same, for a run of several files with these names, in the order in which they are read. A file
-    /// without events is reported by its name.
-    pub fn with_file_names(
-        form: F,
-        files: FileForms,
-        slow: u64,
-        file_names: VecDeque<String>,
-    ) -> Report<F> {
-        Report {
-            run: TestRun::with_file_names(slow, file_names),
-            form,
-            files,
-        }
-    }
-
     /// Reads a file of the run to its end. If a line makes something known, the report writes it and flushes
     /// the sink before it takes the next line.
     ///

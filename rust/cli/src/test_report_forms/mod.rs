@@ -11,8 +11,8 @@
 //! cannot control the reader's terminal. A colon at the front of a line, and the first of two `#` before `[`,
 //! `vso[` or `teamcity[` become escapes, too, so that no CI system takes a line for a command. The exceptions are `TextForm`
 //! with `raw`, whose reasons of failures keep all this, and `JsonForm`, which escapes only what JSON requires, and
-//! such a `#`. Of the name of a suite or a test at most the first 1,024 bytes are shown. `NamesForm` and `JsonForm`
-//! have it whole.
+//! such a `#`. Of the name of a suite, a test or a file at most the first 1,024 bytes are shown. `NamesForm` and
+//! `JsonForm` have the names of suites and tests whole.
 //!
 //! This function returns the text that `TextForm` writes for one note:
 //!

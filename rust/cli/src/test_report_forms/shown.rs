@@ -5,7 +5,7 @@ use crate::template::shown::{is_escaped, push_escape};
 use crate::test_report_forms::commands::begins_command;
 use crate::test_report_forms::lines::without_returns;
 
-/// The most bytes of the name of a suite or a test that are shown.
+/// The most bytes of the name of a suite, a test or a file that are shown.
 const NAME_LIMIT: usize = 1_024;
 
 /// Appends a character, as an escape such as `\u{1b}` if `escaped` is true.
@@ -49,8 +49,8 @@ fn has_escape(c: char, rest: &str, at_front: bool, one_line: bool) -> bool {
     begins_command(c, rest, at_front) || is_control(c, one_line)
 }
 
-/// Appends the name of a suite or a test: at most its first 1,024 bytes, cut at a character, and `..` if it is
-/// longer.
+/// Appends the name of a suite, a test or a file: at most its first 1,024 bytes, cut at a character, and `..` if it
+/// is longer.
 pub fn push_name(text: &mut String, name: &str) {
     push_line(text, front(name, NAME_LIMIT));
     push_dots(text, name.len() > NAME_LIMIT);

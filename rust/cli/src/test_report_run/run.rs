@@ -84,7 +84,7 @@ pub struct TestRun {
     /// The least time of a slow test, in microseconds.
     slow: u64,
 
-    /// The names of the file and of those after it, if the run has several.
+    /// The names of this file and of those after it. There are none if the run has only one file.
     file_names: VecDeque<String>,
 }
 
@@ -256,7 +256,7 @@ impl TestRun {
         }
     }
 
-    /// Returns the name of the file, if the run has several.
+    /// Returns the name of the file, if the files of the run have names.
     fn file_name(&self) -> Option<String> {
         self.file_names.front().cloned()
     }

@@ -192,7 +192,7 @@ pub enum Disagreement {
 
     /// No line of a file is an event of a harness, and nothing failed or disagreed in it.
     NoEvent {
-        /// The name of the file, if the run has several.
+        /// The name of the file, if the files of the run have names.
         file: Option<String>,
     },
 
