@@ -83,6 +83,8 @@ pub struct ExecutionStatusesIter<'a, S: OutputSpec> {
     }""",
     ),
     # A value leaves a box by `*`.
+    ("test_report_forms/src/junit_values.rt", "Box::into_inner(place)", "*place"),
+    ("test_report_forms/src/junit_values.rt", "Box::into_inner(reason)", "*reason"),
     ("test_report_run/src/run.rt", "Box::into_inner(suite)", "*suite"),
     ("test_report_run/src/open_suites/changes.rt", "Box::into_inner(self.list.remove(at))", "*self.list.remove(at)"),
     # The crate's own moments are made otherwise.

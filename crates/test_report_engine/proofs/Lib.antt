@@ -3,6 +3,7 @@ pub mod Inputs
 pub mod Lines
 pub mod Lists
 pub mod Notes
+pub mod Order
 pub mod Parts
 pub mod PassedOn
 pub mod Reports

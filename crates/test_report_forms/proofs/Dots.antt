@@ -1,14 +1,25 @@
--- The class of test cases, as `replace` makes it of the name of a suite.
-use Rattle.std.proofs.Common.{◌≡◌, ◌∙◌, ◌==◌, refl, sym, ap, cond, subst, ℕ, zero, suc, ◌<◌, ◌≤◌, None, List, [], ◌∷◌, ◌++◌, length, take, drop, take-append-drop, length-take, arith, Bor, Result, Ok, Err, IfOk, string_bytes, eqb-true}
+-- The class of test cases: the name of a suite without dots, and what `replace` makes of another name.
+use Rattle.std.proofs.Common.{◌≡◌, ◌∙◌, ◌==◌, ◌||◌, refl, sym, ap, cond, subst, ℕ, Bool, true, false, zero, suc, ◌<◌, ◌≤◌, None, List, [], ◌∷◌, ◌++◌, length, take, drop, take-append-drop, length-take, arith, Bor, Result, Ok, Err, IfOk, string_bytes, eqb-true}
 use Rattle.std.proofs.Math.Logic.{⊎_elim}
 use Rattle.std.proofs.lemmas.Bool.{cases_Bool}
+use Rattle.std.specs.List.{list_any}
 use Rattle.std.specs.Str.Pattern.{FindsText, LacksTextAt}
 use Rattle.std.specs.Str.Replace.{ReplacesMatches}
 use Rattle.std.specs.declared.string.String.{String}
-use Rattle.test_report_forms.specs.JunitCase.{class_byte, class_name}
+use Rattle.test_report_forms.specs.JunitCase.{class_byte, class_name, is_dot}
 
 abbrev pub dot : List ℕ
 dot = 46 ∷ []
+
+-- a name without dots is its class
+no-dot : (dotted : Bool) (x : ℕ) (name : List ℕ) → is_dot x ≡ dotted → (dotted || list_any is_dot name) ≡ false
+    → (list_any is_dot name ≡ false → class_name name ≡ name) → class_name (x ∷ name) ≡ (x ∷ name)
+no-dot true x name is none rest = cc
+no-dot false x name is none rest = ap (λ b. cond b 95 x ∷ class_name name) is ∙ ap (λ t. x ∷ t) (rest none)
+
+pub kept_class : (name : List ℕ) → list_any is_dot name ≡ false → class_name name ≡ name
+kept_class [] none = refl
+kept_class (x ∷ name) none = no-dot (is_dot x) x name refl none (kept_class name)
 
 -- a byte that is no dot is kept
 other : (x : ℕ) (text : List ℕ) → LacksTextAt dot (x ∷ text) 0 → class_byte x ≡ x

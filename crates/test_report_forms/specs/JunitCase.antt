@@ -1,5 +1,6 @@
 -- The test cases of JUnit's XML.
-use Rattle.std.specs.Prelude.{◌-◌, ◌==◌, ℕ, Bool, true, false, not, if◌then◌else◌, List, codes, map, min, Option, None, option_map, string_bytes, unwrap_or}
+use Rattle.std.specs.Prelude.{◌-◌, ◌==◌, ℕ, Bool, true, false, not, if◌then◌else◌, List, Box, codes, map, min, Option, None, option_map, string_bytes, unwrap_or}
+use Rattle.std.specs.declared.alloc.Global.{Global}
 use Rattle.test_report_run_notes.specs.Note.{FailureView, HasCrashed, HasFailed, HasNoEnd, HasTimedOut, IsFlaky, KindView, TestNoteView, text_view}
 use Rattle.test_report_forms.specs.Model.{CauseView, FailedView, shown_failure_of, shown_reason, suite_name}
 use Rattle.test_report_forms.specs.Shown.{shown_line, shown_name, whole_text}
@@ -54,11 +55,15 @@ reason_view r = record {
 abbrev pub case_kind_view : CaseKind → CaseKindView
 case_kind_view (kind.Passed failed) = PassedCase failed
 case_kind_view (kind.Skipped reason) = SkippedCase (text_view reason)
-case_kind_view (kind.Failed reason) = FailedCase (reason_view reason)
+case_kind_view (kind.Failed reason) = FailedCase (reason_view reason.value)
 
 -- a place that is kept
 abbrev pub case_place_view : CasePlace → CasePlaceView
 case_place_view p = record { file = string_bytes p.file; line = string_bytes p.line }
+
+-- a place that is kept, if it is known
+abbrev pub kept_place : Option (Box CasePlace Global) → Option CasePlaceView
+kept_place place = option_map (λ p. case_place_view p.value) place
 
 -- a test case that is kept
 abbrev pub case_view : Case → CaseView
@@ -66,13 +71,17 @@ case_view c = record {
   name = string_bytes c.name;
   class = string_bytes c.class;
   time = c.time;
-  place = option_map case_place_view c.place;
+  place = kept_place c.place;
   kind = case_kind_view c.kind;
 }
 
+-- a dot
+abbrev pub is_dot : ℕ → Bool
+is_dot b = b == 46
+
 -- a byte of a class: `_` is written for a dot
 abbrev pub class_byte : ℕ → ℕ
-class_byte b = if b == 46 then 95 else b
+class_byte b = if is_dot b then 95 else b
 
 -- the class of the test cases of a suite with this name
 abbrev pub class_name : List ℕ → List ℕ

@@ -1,6 +1,7 @@
 //! The test cases of JUnit's XML.
 
 ghost use Rattle.std.specs.Prelude.{◌≡◌, IfOk, option_map, string_bytes};
+ghost use Rattle.std.specs.List.{list_any};
 ghost use Rattle.test_report_run_notes.specs.Note.{failure_view, kind_view, test_view, text_view};
 ghost use Rattle.test_report_forms.specs.JunitCase as spec;
 ghost use Rattle.test_report_forms.specs.JunitCase.{case_kind_view, case_place_view, case_view};
@@ -27,7 +28,8 @@ pub(crate) const OWN_NAME: &str = "test-report";
 /// The most attempts that failed which a test case has.
 const MOST_ATTEMPTS: usize = 20;
 
-/// A test case. In its texts control characters are already escapes.
+/// A test case. In its texts control characters are already escapes. What only failed tests have is in a `Box`, so that
+/// the others need less memory.
 #[derive(Drop)]
 pub(crate) struct Case {
     /// Its name.
@@ -40,7 +42,7 @@ pub(crate) struct Case {
     pub(crate) time: Option<u64>,
 
     /// The place in the sources, if the test failed and its place is known.
-    pub(crate) place: Option<CasePlace>,
+    pub(crate) place: Option<Box<CasePlace>>,
 
     /// Its kind.
     pub(crate) kind: CaseKind,
@@ -66,7 +68,7 @@ pub(crate) enum CaseKind {
     Skipped(Option<String>),
 
     /// The test failed, or the test case is of a problem of the run.
-    Failed(Reason),
+    Failed(Box<Reason>),
 }
 
 /// Why a test case failed.
@@ -93,16 +95,16 @@ impl Case {
     fn of_test(
         alloc: Global,
         test: &TestNote,
-        place: Option<CasePlace>,
+        place: Option<Box<CasePlace>>,
         kind: CaseKind,
     ) -> Result<Case, AllocError>
         ensures { IfOk result (λ c. case_view c
-            ≡ spec.test_case (test_view test.now) (option_map case_place_view place) (case_kind_view kind)) }
+            ≡ spec.test_case (test_view test.now) (spec.kept_place place) (case_kind_view kind)) }
     {
         let suite = suite_name(alloc, shared_text(&test.suite))?;
         Ok(Case {
             name: name_text(alloc, shown_name(test))?,
-            class: class_name(alloc, suite.as_str())?,
+            class: class_name(alloc, suite)?,
             time: test.time,
             place,
             kind,
@@ -145,7 +147,12 @@ impl Case {
             why,
             output: whole_text(alloc, text_of(&failure.stdout))?,
         };
-        Case::of_test(alloc, test, place, CaseKind::Failed(reason))
+        Case::of_test(
+            alloc,
+            test,
+            place,
+            CaseKind::Failed(Box::new(alloc, reason)?),
+        )
     }
 
     /// Returns the test case of a cause.
@@ -183,7 +190,7 @@ impl Case {
             class: String::from_str(alloc, OWN_NAME)?,
             time: None,
             place: None,
-            kind: CaseKind::Failed(reason),
+            kind: CaseKind::Failed(Box::new(alloc, reason)?),
         })
     }
 
@@ -228,8 +235,27 @@ fn name_text(alloc: Global, name: &str) -> Result<String, AllocError>
 }
 
 /// Returns the class of the test cases of a suite by the name of the suite: each `.` is written as `_`. Readers take what
-/// is before the last `.` for a package.
-fn class_name(alloc: Global, name: &str) -> Result<String, AllocError>
+/// is before the last `.` for a package. A name without a dot is not copied.
+#[tactic(auto, using(crate::proofs::Dots::kept_class))]
+fn class_name(alloc: Global, name: String) -> Result<String, AllocError>
+    ensures { IfOk result (λ class. string_bytes class ≡ spec.class_name (string_bytes name)) }
+{
+    if has_dot(name.as_bytes()) {
+        without_dots(alloc, name.as_str())
+    } else {
+        Ok(name)
+    }
+}
+
+/// Returns true if a name has a dot.
+fn has_dot(name: &[u8]) -> bool
+    ensures { result ≡ list_any spec.is_dot name.now }
+{
+    name.contains(&b'.')
+}
+
+/// Returns a name with `_` for each dot.
+fn without_dots(alloc: Global, name: &str) -> Result<String, AllocError>
     ensures { IfOk result (λ class. string_bytes class ≡ spec.class_name name.now) }
 {
     name.replace(alloc, ".", "_")
@@ -246,12 +272,15 @@ fn whole_text(alloc: Global, text: Option<&str>) -> Result<Option<String>, Alloc
 }
 
 /// Returns a place as it is shown, or `None` if it is not known.
-fn shown_place(alloc: Global, place: Option<Place<'_>>) -> Result<Option<CasePlace>, AllocError>
-    ensures { IfOk result (λ shown. option_map case_place_view shown
+fn shown_place(
+    alloc: Global,
+    place: Option<Place<'_>>,
+) -> Result<Option<Box<CasePlace>>, AllocError>
+    ensures { IfOk result (λ shown. spec.kept_place shown
         ≡ option_map spec.shown_place (option_map place_view place.entry)) }
 {
     match place {
-        Some(place) => Ok(Some(CasePlace::of(alloc, place)?)),
+        Some(place) => Ok(Some(Box::new(alloc, CasePlace::of(alloc, place)?)?)),
         None => Ok(None),
     }
 }

@@ -12,11 +12,11 @@
 //! | `skipped` | each other `case` that was skipped |
 //! | `failure` or `error` (`message`, `type`, `why`), `output` (its `text`) | each `case` that failed |
 
-ghost use Rattle.std.specs.Prelude.{◌≡◌, ◌++◌, ◌∷◌, [], IfOk, OnOk, codes, map, option_map, string_bytes};
+ghost use Rattle.std.specs.Prelude.{◌≡◌, ◌++◌, ◌∷◌, [], IfOk, OnOk, codes, map, string_bytes};
 ghost use Rattle.std.specs.Fmt.{decimal};
 ghost use Rattle.template.specs.Template.{ItemValue, value_view, values_of};
 ghost use Rattle.test_report_run_notes.specs.Note.{text_view};
-ghost use Rattle.test_report_forms.specs.JunitCase.{case_kind_view, case_place_view, case_view, reason_view};
+ghost use Rattle.test_report_forms.specs.JunitCase.{case_kind_view, case_view, kept_place, reason_view};
 ghost use Rattle.test_report_forms.specs.JunitSuite.{suite_view};
 ghost use Rattle.test_report_forms.specs.JunitValues as spec;
 ghost use Rattle.test_report_forms.specs.Values.{one_text};
@@ -28,6 +28,10 @@ use crate::open_suites::Suite;
 use crate::values::{one_text, push_option, push_time};
 use std::alloc::{AllocError, Global};
 use template::{Value, push_item, push_section, push_text};
+
+/// How many values most test cases have: a name, a class and a time. Their lists have room for no more, which saves
+/// memory.
+const CASE_VALUES: usize = 3;
 
 /// Returns the values of a run with these suites.
 pub(crate) fn junit_values(
@@ -82,7 +86,7 @@ fn push_number(
     ensures { OnOk result (map value_view values.new.items
         ≡ map value_view values.old.items ++ one_text name.now (decimal number)) }
 {
-    push_text(values, name, format!(in alloc; "{number}")?)
+    push_text(values, name, number.to_string(alloc)?)
 }
 
 /// Returns the values of a test case.
@@ -96,7 +100,8 @@ fn case_values(alloc: Global, case: Case) -> Result<Vec<Value>, AllocError>
         place,
         kind,
     } = case;
-    let mut values = one_text(alloc, "name", name)?;
+    let mut values = Vec::with_capacity(alloc, CASE_VALUES)?;
+    push_text(&mut values, "name", name)?;
     push_text(&mut values, "class", class)?;
     push_time(alloc, &mut values, time)?;
     push_place(alloc, &mut values, place)?;
@@ -108,14 +113,15 @@ fn case_values(alloc: Global, case: Case) -> Result<Vec<Value>, AllocError>
 fn push_place(
     alloc: Global,
     values: &mut Vec<Value>,
-    place: Option<CasePlace>,
+    place: Option<Box<CasePlace>>,
 ) -> Result<(), AllocError>
     ensures { OnOk result (map value_view values.new.items
-        ≡ map value_view values.old.items ++ spec.place_item (option_map case_place_view place)) }
+        ≡ map value_view values.old.items ++ spec.place_item (kept_place place)) }
 {
-    let Some(CasePlace { file, line }) = place else {
+    let Some(place) = place else {
         return Ok(());
     };
+    let CasePlace { file, line } = Box::into_inner(place);
     let mut item = one_text(alloc, "file", file)?;
     push_text(&mut item, "line", line)?;
     push_item(values, "place", item)
@@ -129,7 +135,7 @@ fn push_kind(alloc: Global, values: &mut Vec<Value>, kind: CaseKind) -> Result<(
     match kind {
         CaseKind::Passed(failed) => push_section(values, "flaky", attempts(alloc, failed)?),
         CaseKind::Skipped(reason) => push_skipped(alloc, values, reason),
-        CaseKind::Failed(reason) => push_reason(alloc, values, reason),
+        CaseKind::Failed(reason) => push_reason(alloc, values, Box::into_inner(reason)),
     }
 }
 

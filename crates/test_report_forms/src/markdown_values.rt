@@ -67,7 +67,7 @@ fn push_more(alloc: Global, values: &mut Vec<Value>, more: usize) -> Result<(), 
     if more == 0 {
         return Ok(());
     }
-    let count = format!(in alloc; "{more}")?;
+    let count = more.to_string(alloc)?;
     push_item(values, "more", one_text(alloc, "count", count)?)
 }
 

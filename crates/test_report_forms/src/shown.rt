@@ -1,7 +1,8 @@
 //! How text of the input is shown.
 
-ghost use Rattle.std.specs.Prelude.{◌≡◌, ◌≤◌, ◌++◌, IfOk, OnOk, length, option_map, replicate, string_bytes, if◌then◌else◌, true};
+ghost use Rattle.std.specs.Prelude.{◌≡◌, ◌≤◌, ◌<◌, ◌+◌, ◌++◌, ◌∷◌, [], IfOk, OnOk, length, option_map, replicate, string_bytes, if◌then◌else◌, true};
 ghost use Rattle.std.specs.Char.{encode_utf8};
+ghost use Rattle.std.specs.Fmt.{decimal};
 ghost use Rattle.std.specs.List.{list_all};
 ghost use Rattle.std.specs.Str.{chars};
 ghost use Rattle.template.specs.Shown.{escape};
@@ -231,12 +232,12 @@ pub(crate) fn push_indented(
 }
 
 /// Returns a time in seconds, with three digits after the point.
-#[tactic(auto, unfolding(crate::specs::Shown::seconds))]
 pub(crate) fn seconds_text(alloc: Global, micros: u64) -> Result<String, AllocError>
     ensures { IfOk result (λ text. string_bytes text ≡ spec.seconds micros) }
 {
-    let (seconds, millis) = (micros / 1_000_000, micros / 1_000 % 1_000);
-    format!(in alloc; "{seconds}.{millis:03}")
+    let mut text = String::new(alloc);
+    push_seconds(&mut text, micros)?;
+    Ok(text)
 }
 
 /// Appends a time in seconds, with three digits after the point.
@@ -244,8 +245,39 @@ pub(crate) fn seconds_text(alloc: Global, micros: u64) -> Result<String, AllocEr
 pub(crate) fn push_seconds(text: &mut String, micros: u64) -> Result<(), AllocError>
     ensures { OnOk result (string_bytes text.new ≡ string_bytes text.old ++ spec.seconds micros) }
 {
-    let (seconds, millis) = (micros / 1_000_000, micros / 1_000 % 1_000);
-    write!(text, "{seconds}.{millis:03}")
+    push_number(text, micros / 1_000_000)?;
+    text.push('.')?;
+    push_three_digits(text, micros / 1_000 % 1_000)
+}
+
+/// Appends a number. Most tests take less than ten seconds, and one digit needs no text of its own.
+#[tactic(auto, using(std::proofs::lemmas::Fmt::decimal_digit))]
+fn push_number(text: &mut String, number: u64) -> Result<(), AllocError>
+    ensures { OnOk result (string_bytes text.new ≡ string_bytes text.old ++ decimal number) }
+{
+    if number < 10 {
+        push_digit(text, number)
+    } else {
+        write!(text, "{number}")
+    }
+}
+
+/// Appends a number, which must be below 1,000, with three digits.
+fn push_three_digits(text: &mut String, number: u64) -> Result<(), AllocError>
+    requires { number < 1000 }
+    ensures { OnOk result (string_bytes text.new ≡ string_bytes text.old ++ spec.three_digits number) }
+{
+    push_digit(text, number / 100)?;
+    push_digit(text, number / 10 % 10)?;
+    push_digit(text, number % 10)
+}
+
+/// Appends a digit, which must be below 10.
+fn push_digit(text: &mut String, digit: u64) -> Result<(), AllocError>
+    requires { digit < 10 }
+    ensures { OnOk result (string_bytes text.new ≡ string_bytes text.old ++ ((48 + digit) ∷ [])) }
+{
+    text.push((b'0' + digit as u8) as char)
 }
 
 /// Appends a time in brackets and a space, at least as wide as `[   0.004s] `. Appends nothing without a time.

@@ -27,7 +27,7 @@ fn note(alloc: Global, attempts: usize, time: Option<u64>) -> Result<Vec<Value>,
 {
     let mut values = Vec::new(alloc);
     if attempts > 1 {
-        let count = one_text(alloc, "count", format!(in alloc; "{attempts}")?)?;
+        let count = one_text(alloc, "count", attempts.to_string(alloc)?)?;
         push_item(&mut values, "attempts", count)?;
     }
     push_time(alloc, &mut values, time)?;
@@ -64,7 +64,7 @@ fn output_values(alloc: Global, output: WholeOutput) -> Result<Vec<Value>, Alloc
     ensures { IfOk result (λ v. map value_view v.items ≡ spec.output_values (output_view output)) }
 {
     let WholeOutput { lines, text } = output;
-    let mut values = one_text(alloc, "lines", format!(in alloc; "{lines}")?)?;
+    let mut values = one_text(alloc, "lines", lines.to_string(alloc)?)?;
     push_text(&mut values, "text", text)?;
     Ok(values)
 }
@@ -130,7 +130,7 @@ fn slow_values(alloc: Global, test: SlowTest, longest: u64) -> Result<Vec<Value>
     let SlowTest { time, line } = test;
     let share = u128::from(time) * 100 / u128::from(longest.max(1));
     let mut values = one_text(alloc, "name", line)?;
-    push_text(&mut values, "share", format!(in alloc; "{share}")?)?;
+    push_text(&mut values, "share", share.to_string(alloc)?)?;
     push_text(&mut values, "seconds", seconds_text(alloc, time)?)?;
     Ok(values)
 }
@@ -178,7 +178,7 @@ fn flaky_values(alloc: Global, test: FlakyRow) -> Result<Vec<Value>, AllocError>
         time,
     } = test;
     let mut values = one_text(alloc, "name", name)?;
-    push_text(&mut values, "attempts", format!(in alloc; "{attempts}")?)?;
+    push_text(&mut values, "attempts", attempts.to_string(alloc)?)?;
     push_time(alloc, &mut values, time)?;
     Ok(values)
 }

@@ -95,7 +95,7 @@ fn push_other_tests(
     push_section(values, "flaky_tests", flaky_items(alloc, flaky)?)
 }
 
-/// Returns values with one text.
+/// Returns values with one text. The list has room for one value, because most get no other.
 pub(crate) fn one_text(
     alloc: Global,
     name: &'static str,
@@ -103,7 +103,7 @@ pub(crate) fn one_text(
 ) -> Result<Vec<Value>, AllocError>
     ensures { IfOk result (λ v. map value_view v.items ≡ spec.one_text name.now (string_bytes text)) }
 {
-    let mut values = Vec::new(alloc);
+    let mut values = Vec::with_capacity(alloc, 1)?;
     push_text(&mut values, name, text)?;
     Ok(values)
 }
@@ -183,7 +183,7 @@ fn push_slow(alloc: Global, values: &mut Vec<Value>, slow: usize) -> Result<(), 
     if slow == 0 {
         return Ok(());
     }
-    let count = one_text(alloc, "count", format!(in alloc; "{slow}")?)?;
+    let count = one_text(alloc, "count", slow.to_string(alloc)?)?;
     push_item(values, "slow", count)
 }
 
@@ -223,7 +223,7 @@ fn push_number(
     ensures { OnOk result (map value_view values.new.items
         ≡ map value_view values.old.items ++ spec.number name.now number ∷ []) }
 {
-    push_text(values, name, format!(in alloc; "{number}")?)
+    push_text(values, name, number.to_string(alloc)?)
 }
 
 /// Adds a part of a bar, unless its number is 0.
@@ -240,7 +240,7 @@ fn push_part(
         return Ok(());
     }
     let mut part = one_word(alloc, "class", class)?;
-    push_text(&mut part, "number", format!(in alloc; "{number}")?)?;
+    push_text(&mut part, "number", number.to_string(alloc)?)?;
     push_item(parts, "part", part)
 }
 

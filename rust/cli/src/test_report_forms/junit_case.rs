@@ -19,7 +19,8 @@ pub(crate) const OWN_NAME: &str = "test-report";
 /// The most attempts that failed which a test case has.
 const MOST_ATTEMPTS: usize = 20;
 
-/// A test case. In its texts control characters are already escapes.
+/// A test case. In its texts control characters are already escapes. What only failed tests have is in a `Box`, so that
+/// the others need less memory.
 #[derive(Clone)]
 pub(crate) struct Case {
     /// Its name.
@@ -32,7 +33,7 @@ pub(crate) struct Case {
     pub(crate) time: Option<u64>,
 
     /// The place in the sources, if the test failed and its place is known.
-    pub(crate) place: Option<CasePlace>,
+    pub(crate) place: Option<Box<CasePlace>>,
 
     /// Its kind.
     pub(crate) kind: CaseKind,
@@ -58,7 +59,7 @@ pub(crate) enum CaseKind {
     Skipped(Option<String>),
 
     /// The test failed, or the test case is of a problem of the run.
-    Failed(Reason),
+    Failed(Box<Reason>),
 }
 
 /// Why a test case failed.
@@ -82,11 +83,11 @@ pub(crate) struct Reason {
 
 impl Case {
     /// Returns the test case of a test.
-    fn of_test(test: &TestNote, place: Option<CasePlace>, kind: CaseKind) -> Case {
+    fn of_test(test: &TestNote, place: Option<Box<CasePlace>>, kind: CaseKind) -> Case {
         let suite = suite_name(shared_text(&test.suite));
         Case {
             name: name_text(shown_name(test)),
-            class: class_name(suite.as_str()),
+            class: class_name(suite),
             time: test.time,
             place,
             kind,
@@ -121,7 +122,7 @@ impl Case {
             why,
             output: whole_text(text_of(&failure.stdout)),
         };
-        Case::of_test(test, place, CaseKind::Failed(reason))
+        Case::of_test(test, place, CaseKind::Failed(Box::new(reason)))
     }
 
     /// Returns the test case of a cause.
@@ -149,7 +150,7 @@ impl Case {
             class: String::from(OWN_NAME),
             time: None,
             place: None,
-            kind: CaseKind::Failed(reason),
+            kind: CaseKind::Failed(Box::new(reason)),
         }
     }
 
@@ -186,8 +187,22 @@ fn name_text(name: &str) -> String {
 }
 
 /// Returns the class of the test cases of a suite by the name of the suite: each `.` is written as `_`. Readers take what
-/// is before the last `.` for a package.
-fn class_name(name: &str) -> String {
+/// is before the last `.` for a package. A name without a dot is not copied.
+fn class_name(name: String) -> String {
+    if has_dot(name.as_bytes()) {
+        without_dots(name.as_str())
+    } else {
+        name
+    }
+}
+
+/// Returns true if a name has a dot.
+fn has_dot(name: &[u8]) -> bool {
+    name.contains(&b'.')
+}
+
+/// Returns a name with `_` for each dot.
+fn without_dots(name: &str) -> String {
     name.replace(".", "_")
 }
 
@@ -197,8 +212,8 @@ fn whole_text(text: Option<&str>) -> Option<String> {
 }
 
 /// Returns a place as it is shown, or `None` if it is not known.
-fn shown_place(place: Option<Place<'_>>) -> Option<CasePlace> {
-    place.map(CasePlace::of)
+fn shown_place(place: Option<Place<'_>>) -> Option<Box<CasePlace>> {
+    place.map(|place| Box::new(CasePlace::of(place)))
 }
 
 impl CasePlace {

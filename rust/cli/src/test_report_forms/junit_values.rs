@@ -20,6 +20,10 @@ use crate::test_report_forms::model::suite_name;
 use crate::test_report_forms::open_suites::Suite;
 use crate::test_report_forms::values::{one_text, push_option, push_time};
 
+/// How many values most test cases have: a name, a class and a time. Their lists have room for no more, which saves
+/// memory.
+const CASE_VALUES: usize = 3;
+
 /// Returns the values of a run with these suites.
 pub(crate) fn junit_values(suites: Vec<Suite<Case>>, time: Option<u64>) -> Vec<Value> {
     let mut values = counts_values(JunitCounts::of_suites(suites.as_slice()));
@@ -54,7 +58,7 @@ fn counts_values(counts: JunitCounts) -> Vec<Value> {
 
 /// Adds a number.
 fn push_number(values: &mut Vec<Value>, name: &'static str, number: usize) {
-    push_text(values, name, format!("{number}"));
+    push_text(values, name, number.to_string());
 }
 
 /// Returns the values of a test case.
@@ -66,7 +70,8 @@ fn case_values(case: Case) -> Vec<Value> {
         place,
         kind,
     } = case;
-    let mut values = one_text("name", name);
+    let mut values = Vec::with_capacity(CASE_VALUES);
+    push_text(&mut values, "name", name);
     push_text(&mut values, "class", class);
     push_time(&mut values, time);
     push_place(&mut values, place);
@@ -75,10 +80,11 @@ fn case_values(case: Case) -> Vec<Value> {
 }
 
 /// Adds a place, if it is known.
-fn push_place(values: &mut Vec<Value>, place: Option<CasePlace>) {
-    let Some(CasePlace { file, line }) = place else {
+fn push_place(values: &mut Vec<Value>, place: Option<Box<CasePlace>>) {
+    let Some(place) = place else {
         return;
     };
+    let CasePlace { file, line } = *place;
     let mut item = one_text("file", file);
     push_text(&mut item, "line", line);
     push_item(values, "place", item);
@@ -89,7 +95,7 @@ fn push_kind(values: &mut Vec<Value>, kind: CaseKind) {
     match kind {
         CaseKind::Passed(failed) => push_section(values, "flaky", attempts(failed)),
         CaseKind::Skipped(reason) => push_skipped(values, reason),
-        CaseKind::Failed(reason) => push_reason(values, reason),
+        CaseKind::Failed(reason) => push_reason(values, *reason),
     }
 }
 

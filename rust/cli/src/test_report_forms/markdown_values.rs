@@ -52,7 +52,7 @@ fn push_more(values: &mut Vec<Value>, more: usize) {
     if more == 0 {
         return;
     }
-    let count = format!("{more}");
+    let count = more.to_string();
     push_item(values, "more", one_text("count", count));
 }
 

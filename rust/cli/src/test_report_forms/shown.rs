@@ -160,14 +160,37 @@ pub(crate) fn push_indented(text: &mut String, shown: &str, margin: usize, raw: 
 
 /// Returns a time in seconds, with three digits after the point.
 pub(crate) fn seconds_text(micros: u64) -> String {
-    let (seconds, millis) = (micros / 1_000_000, micros / 1_000 % 1_000);
-    format!("{seconds}.{millis:03}")
+    let mut text = String::new();
+    push_seconds(&mut text, micros);
+    text
 }
 
 /// Appends a time in seconds, with three digits after the point.
 pub(crate) fn push_seconds(text: &mut String, micros: u64) {
-    let (seconds, millis) = (micros / 1_000_000, micros / 1_000 % 1_000);
-    text.push_str(&format!("{seconds}.{millis:03}"));
+    push_number(text, micros / 1_000_000);
+    text.push('.');
+    push_three_digits(text, micros / 1_000 % 1_000);
+}
+
+/// Appends a number. Most tests take less than ten seconds, and one digit needs no text of its own.
+fn push_number(text: &mut String, number: u64) {
+    if number < 10 {
+        push_digit(text, number);
+    } else {
+        text.push_str(&format!("{number}"));
+    }
+}
+
+/// Appends a number, which must be below 1,000, with three digits.
+fn push_three_digits(text: &mut String, number: u64) {
+    push_digit(text, number / 100);
+    push_digit(text, number / 10 % 10);
+    push_digit(text, number % 10);
+}
+
+/// Appends a digit, which must be below 10.
+fn push_digit(text: &mut String, digit: u64) {
+    text.push((b'0' + digit as u8) as char);
 }
 
 /// Appends a time in brackets and a space, at least as wide as `[   0.004s] `. Appends nothing without a time.

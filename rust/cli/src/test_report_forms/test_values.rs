@@ -15,7 +15,7 @@ use crate::test_report_forms::whole_output::WholeOutput;
 fn note(attempts: usize, time: Option<u64>) -> Vec<Value> {
     let mut values = Vec::new();
     if attempts > 1 {
-        let count = one_text("count", format!("{attempts}"));
+        let count = one_text("count", attempts.to_string());
         push_item(&mut values, "attempts", count);
     }
     push_time(&mut values, time);
@@ -40,7 +40,7 @@ fn push_suite(values: &mut Vec<Value>, suite: Option<String>) {
 /// Returns the values of the whole output of a failed test.
 fn output_values(output: WholeOutput) -> Vec<Value> {
     let WholeOutput { lines, text } = output;
-    let mut values = one_text("lines", format!("{lines}"));
+    let mut values = one_text("lines", lines.to_string());
     push_text(&mut values, "text", text);
     values
 }
@@ -92,7 +92,7 @@ fn slow_values(test: SlowTest, longest: u64) -> Vec<Value> {
     let SlowTest { time, line } = test;
     let share = u128::from(time) * 100 / u128::from(longest.max(1));
     let mut values = one_text("name", line);
-    push_text(&mut values, "share", format!("{share}"));
+    push_text(&mut values, "share", share.to_string());
     push_text(&mut values, "seconds", seconds_text(time));
     values
 }
@@ -132,7 +132,7 @@ fn flaky_values(test: FlakyRow) -> Vec<Value> {
         time,
     } = test;
     let mut values = one_text("name", name);
-    push_text(&mut values, "attempts", format!("{attempts}"));
+    push_text(&mut values, "attempts", attempts.to_string());
     push_time(&mut values, time);
     values
 }

@@ -72,9 +72,9 @@ fn push_other_tests(
     push_section(values, "flaky_tests", flaky_items(flaky));
 }
 
-/// Returns values with one text.
+/// Returns values with one text. The list has room for one value, because most get no other.
 pub(crate) fn one_text(name: &'static str, text: String) -> Vec<Value> {
-    let mut values = Vec::new();
+    let mut values = Vec::with_capacity(1);
     push_text(&mut values, name, text);
     values
 }
@@ -122,7 +122,7 @@ fn push_slow(values: &mut Vec<Value>, slow: usize) {
     if slow == 0 {
         return;
     }
-    let count = one_text("count", format!("{slow}"));
+    let count = one_text("count", slow.to_string());
     push_item(values, "slow", count);
 }
 
@@ -146,7 +146,7 @@ pub(crate) fn run_values(end: &RunEnd) -> Vec<Value> {
 
 /// Adds a number.
 fn push_number(values: &mut Vec<Value>, name: &'static str, number: u128) {
-    push_text(values, name, format!("{number}"));
+    push_text(values, name, number.to_string());
 }
 
 /// Adds a part of a bar, unless its number is 0.
@@ -155,7 +155,7 @@ fn push_part(parts: &mut Vec<Value>, class: &'static str, number: u128) {
         return;
     }
     let mut part = one_word("class", class);
-    push_text(&mut part, "number", format!("{number}"));
+    push_text(&mut part, "number", number.to_string());
     push_item(parts, "part", part);
 }
 

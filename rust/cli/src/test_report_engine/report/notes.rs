@@ -25,6 +25,9 @@ pub(crate) fn notes_of_line<O: Sink>(
 
 /// Returns the notes of a line in the order of a report: tests that were not run, and the numbers of a suite, come last.
 fn in_report_order(notes: Vec<Note>) -> Vec<Note> {
+    if notes.len() < 2 {
+        return notes;
+    }
     let mut ordered = Vec::new();
     let mut last = Vec::new();
     for note in notes {
