@@ -4,8 +4,7 @@
 mod common;
 
 use common::{Folder, Running, command, read_until, soon, started, wait_for};
-use std::fs::{self, Permissions};
-use std::os::unix::fs::PermissionsExt;
+use std::fs;
 use std::process::{Command, Output};
 
 /// The first lines of the script: it builds by the lines in the variable `BUILD`, and otherwise runs a failed test.
@@ -39,9 +38,7 @@ exit 0
 /// Returns a run of a script `cargo` in a folder, which builds in this way. The user has set the variable for the
 /// harness.
 fn cargo_test(folder: &Folder, options: &[&str], build: &str) -> Command {
-    let cargo = folder.file("cargo");
-    fs::write(&cargo, CARGO).expect("the folder is there");
-    fs::set_permissions(&cargo, Permissions::from_mode(0o755)).expect("the file is there");
+    let cargo = folder.script("cargo", CARGO);
     let mut command = command("test-report", options);
     command
         .args(["--", &cargo, "test", "-p", "money"])

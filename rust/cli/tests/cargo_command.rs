@@ -187,12 +187,9 @@ fn a_runner_for_other_targets_and_a_setting_after_the_subcommand_cost_nothing() 
 #[cfg(unix)]
 #[test]
 fn the_end_of_the_output_is_passed_on_without_a_line_feed() {
-    use std::os::unix::fs::PermissionsExt;
     let folder = Folder::new("end");
-    let cargo = folder.0.join("cargo");
     let script = "#!/bin/sh\ncase \"$*\" in\n*'config get'* | *--no-run*) ;;\n*) printf '  process' ;;\nesac\n";
-    fs::write(&cargo, script).expect("the folder is there");
-    fs::set_permissions(&cargo, fs::Permissions::from_mode(0o755)).expect("it is there");
+    folder.script("cargo", script);
     let output = report(&folder, &["--", "./cargo", "test"]);
     assert_eq!(String::from_utf8_lossy(&output.stderr), "  process\n");
 }

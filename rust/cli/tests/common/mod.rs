@@ -151,6 +151,23 @@ impl Folder {
             .expect("the path is UTF-8")
             .to_string()
     }
+
+    /// Writes a script that can be run, and returns its path. A shell writes it. If this process did, a program that
+    /// another test starts in this moment would hold the file open for writing, and Linux does not run such a file.
+    #[cfg(unix)]
+    pub fn script(&self, name: &str, text: &str) -> String {
+        let path = self.file(name);
+        let mut shell = Command::new("sh")
+            .args(["-c", "cat >\"$0\" && chmod 755 \"$0\"", &path])
+            .stdin(Stdio::piped())
+            .spawn()
+            .expect("there is a shell");
+        let mut stdin = shell.stdin.take().expect("standard input is a pipe");
+        stdin.write_all(text.as_bytes()).expect("the shell reads");
+        drop(stdin);
+        assert!(shell.wait().expect("the shell ends").success());
+        path
+    }
 }
 
 impl Drop for Folder {
