@@ -6,20 +6,20 @@ use Rattle.std.specs.List.{list_any}
 use Rattle.std.specs.Str.Pattern.{FindsText, LacksTextAt}
 use Rattle.std.specs.Str.Replace.{ReplacesMatches}
 use Rattle.std.specs.declared.string.String.{String}
-use Rattle.test_report_forms.specs.JunitCase.{class_byte, class_name, is_dot}
+use Rattle.test_report_forms.specs.JunitCase.{class_byte, class_name}
 
 abbrev pub dot : List ℕ
 dot = 46 ∷ []
 
 -- a name without dots is its class
-no-dot : (dotted : Bool) (x : ℕ) (name : List ℕ) → is_dot x ≡ dotted → (dotted || list_any is_dot name) ≡ false
-    → (list_any is_dot name ≡ false → class_name name ≡ name) → class_name (x ∷ name) ≡ (x ∷ name)
+no-dot : (dotted : Bool) (x : ℕ) (name : List ℕ) → (x == 46) ≡ dotted → (dotted || list_any (λ b. b == 46) name) ≡ false
+    → (list_any (λ b. b == 46) name ≡ false → class_name name ≡ name) → class_name (x ∷ name) ≡ (x ∷ name)
 no-dot true x name is none rest = cc
 no-dot false x name is none rest = ap (λ b. cond b 95 x ∷ class_name name) is ∙ ap (λ t. x ∷ t) (rest none)
 
-pub kept_class : (name : List ℕ) → list_any is_dot name ≡ false → class_name name ≡ name
+pub kept_class : (name : List ℕ) → list_any (λ b. b == 46) name ≡ false → class_name name ≡ name
 kept_class [] none = refl
-kept_class (x ∷ name) none = no-dot (is_dot x) x name refl none (kept_class name)
+kept_class (x ∷ name) none = no-dot (x == 46) x name refl none (kept_class name)
 
 -- a byte that is no dot is kept
 other : (x : ℕ) (text : List ℕ) → LacksTextAt dot (x ∷ text) 0 → class_byte x ≡ x

@@ -75,13 +75,9 @@ case_view c = record {
   kind = case_kind_view c.kind;
 }
 
--- a dot
-abbrev pub is_dot : ℕ → Bool
-is_dot b = b == 46
-
 -- a byte of a class: `_` is written for a dot
 abbrev pub class_byte : ℕ → ℕ
-class_byte b = if is_dot b then 95 else b
+class_byte b = if b == 46 then 95 else b
 
 -- the class of the test cases of a suite with this name
 abbrev pub class_name : List ℕ → List ℕ

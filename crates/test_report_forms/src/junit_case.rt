@@ -1,7 +1,6 @@
 //! The test cases of JUnit's XML.
 
 ghost use Rattle.std.specs.Prelude.{◌≡◌, IfOk, option_map, string_bytes};
-ghost use Rattle.std.specs.List.{list_any};
 ghost use Rattle.test_report_run_notes.specs.Note.{failure_view, kind_view, test_view, text_view};
 ghost use Rattle.test_report_forms.specs.JunitCase as spec;
 ghost use Rattle.test_report_forms.specs.JunitCase.{case_kind_view, case_place_view, case_view};
@@ -240,18 +239,11 @@ fn name_text(alloc: Global, name: &str) -> Result<String, AllocError>
 fn class_name(alloc: Global, name: String) -> Result<String, AllocError>
     ensures { IfOk result (λ class. string_bytes class ≡ spec.class_name (string_bytes name)) }
 {
-    if has_dot(name.as_bytes()) {
+    if name.as_bytes().contains(&b'.') {
         without_dots(alloc, name.as_str())
     } else {
         Ok(name)
     }
-}
-
-/// Returns true if a name has a dot.
-fn has_dot(name: &[u8]) -> bool
-    ensures { result ≡ list_any spec.is_dot name.now }
-{
-    name.contains(&b'.')
 }
 
 /// Returns a name with `_` for each dot.

@@ -189,16 +189,11 @@ fn name_text(name: &str) -> String {
 /// Returns the class of the test cases of a suite by the name of the suite: each `.` is written as `_`. Readers take what
 /// is before the last `.` for a package. A name without a dot is not copied.
 fn class_name(name: String) -> String {
-    if has_dot(name.as_bytes()) {
+    if name.as_bytes().contains(&b'.') {
         without_dots(name.as_str())
     } else {
         name
     }
-}
-
-/// Returns true if a name has a dot.
-fn has_dot(name: &[u8]) -> bool {
-    name.contains(&b'.')
 }
 
 /// Returns a name with `_` for each dot.

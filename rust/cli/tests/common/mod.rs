@@ -153,7 +153,7 @@ impl Folder {
     }
 
     /// Writes a script that can be run, and returns its path. A shell writes it. If this process did, a program that
-    /// another test starts in this moment would hold the file open for writing, and Linux does not run such a file.
+    /// another test starts at that moment would hold the file open for writing, and Linux does not run such a file.
     #[cfg(unix)]
     pub fn script(&self, name: &str, text: &str) -> String {
         let path = self.file(name);
