@@ -1,0 +1,11 @@
+pub mod Characters
+pub mod Steps
+pub mod Noted
+pub mod Visible
+pub mod Writing
+pub mod Styles
+pub mod Pushing
+pub mod Commands
+pub mod Absence
+pub mod Reports
+pub mod Joined
