@@ -13,7 +13,7 @@ whole c [] = refl
 whole c (b ∷ bs) = refl
 
 -- the first byte of a character says how many bytes follow
-pub led : (a n v : ℕ) (bs : List ℕ) → n ≡ continuation_len a → v ≡ lead_bits a → chars (a ∷ bs) ≡ chars_after n v bs
+led : (a n v : ℕ) (bs : List ℕ) → n ≡ continuation_len a → v ≡ lead_bits a → chars (a ∷ bs) ≡ chars_after n v bs
 unfolding chars
 led a n v bs p q = λ i. chars_after (sym p i) (sym q i) bs
 
@@ -58,7 +58,7 @@ chars-encode [] = refl
 chars-encode (c ∷ cs) = first-char c (encode_utf8_all cs) ∙ ap (λ l. c ∷ l) (chars-encode cs)
 
 -- the characters of ASCII are its bytes
-pub ascii-char : (b : ℕ) (bs : List ℕ) → b < 128 → chars (b ∷ bs) ≡ b ∷ chars bs
+ascii-char : (b : ℕ) (bs : List ℕ) → b < 128 → chars (b ∷ bs) ≡ b ∷ chars bs
 ascii-char b bs h = led b zero b bs (grind (arith, nat_tests)) (grind (arith, nat_tests)) ∙ whole b bs
 
 module _ (keeps : ℕ → Bool) (low : (b : ℕ) → keeps b ≡ true → b < 128) where

@@ -10,7 +10,6 @@ use Rattle.template.specs.Filled.{with_data}
 use Rattle.template.specs.Reader.{Content, Place, Reading, Tag, Value, more_text, step, with_byte}
 use Rattle.template.specs.Hole.{hole_text, markup, markup_byte}
 use Rattle.template.specs.Shown.{shown}
-use Rattle.template.specs.Tree.{TextTree, TreeView}
 use Rattle.template.specs.declared.hole.Hole.{Hole}
 use Rattle.template.specs.declared.hole.Hole.TheVariants as hole
 
@@ -70,11 +69,6 @@ unfolding hole_text markup
 data-read hole.Attribute (Value t name value) text h = all-value t name (shown text) value
 data-read hole.Text (Content p) text h = all-data (shown text) p
 data-read _ _ text h = absurd (false≢true h)
-
--- data after a text is more of this text
-pub more-data : (bytes text : List ℕ) (trees : List TreeView) → fold with_byte (TextTree text ∷ trees) bytes ≡ TextTree (text ++ bytes) ∷ trees
-more-data [] text trees = ap (λ t. TextTree t ∷ trees) (sym (append-nil text))
-more-data (b ∷ bytes) text trees = more-data bytes (text ++ b ∷ []) trees ∙ ap (λ t. TextTree t ∷ trees) (append_assoc text (b ∷ []) bytes)
 
 pub data-bare : (kind : Hole) (r : Reading) (text : List ℕ) → takes kind (bare r) ≡ true → bare (with_data r text) ≡ bare r
 data-bare hole.Attribute (Value t name value) text h = refl

@@ -9,7 +9,6 @@ use Rattle.template.proofs.Allowed.{xml_chars}
 use Rattle.template.proofs.Bare.{bare-step}
 use Rattle.template.proofs.Data.{run, run-more}
 use Rattle.template.proofs.Filling.{goes_on, part-read, parts-read, passed, refused-part, same-goes-on, section-read, went-on}
-use Rattle.template.proofs.Frames.{place_of}
 use Rattle.template.specs.Laws.{RendersOneTree}
 use Rattle.template.specs.Check.{after_part, after_parts, at_start, bare, bare_open, has_open, part_passes, parts_pass, same_state, takes, text_passes}
 use Rattle.template.specs.Document.{end_tag, ends_document, ends_only, filled_tree, inside, is_document, is_last_tag}
@@ -20,6 +19,22 @@ use Rattle.template.specs.Shown.{is_text_of, is_xml_char, shown}
 use Rattle.template.specs.declared.hole.Hole.{Hole}
 use Rattle.template.specs.declared.hole.Hole.TheVariants as hole
 use Rattle.template.specs.Tree.{ElementTree, NoTrees, TreeView}
+
+-- the place of a state
+abbrev place_of : Reading → Place
+place_of (Content p) = p
+place_of (Reference p name) = p
+place_of (Opening p) = p
+place_of (StartName p name) = p
+place_of (Space t) = t.place
+place_of (AttributeName t name) = t.place
+place_of (Equals t name) = t.place
+place_of (Value t name value) = t.place
+place_of (ValueReference t name value ref) = t.place
+place_of (AfterValue t) = t.place
+place_of (Slash t) = t.place
+place_of (EndTag p rest) = p
+place_of Refused = record { trees = []; around = [] }
 
 -- the trees outside of all elements
 abbrev base_of : List TreeView → List Open → List TreeView

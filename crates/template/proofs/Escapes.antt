@@ -1,4 +1,4 @@
--- Escapes and numbers, as they are written in the holes of a template.
+-- Escapes, as they are written in the holes of a template.
 use Rattle.std.proofs.Common.{◌≡◌, ◌∙◌, ◌<◌, ◌==◌, ◌/◌, ◌%◌, ◌&&◌, ◌||◌, ◌+◌, refl, sym, ap, arith, ℕ, zero, suc, Bool, true, false, List, [], ◌∷◌, ◌++◌, append_assoc, codes, if◌then◌else◌, nat_lt}
 use Rattle.std.proofs.lemmas.Bool.{and_parts}
 use Rattle.std.proofs.lemmas.Bool.Decides.{nat_tests}
@@ -6,15 +6,13 @@ use Rattle.std.proofs.lemmas.Grind.{flat_map-append}
 use Rattle.std.proofs.lemmas.List.Folds.{list_all-append}
 use Rattle.std.proofs.lemmas.Str.{encode_ascii}
 use Rattle.std.specs.Char.{encode_utf8}
-use Rattle.std.specs.Fmt.{decimal, digit_glyph, digits, digits_onto}
+use Rattle.std.specs.Fmt.{digit_glyph, digits, digits_onto}
 use Rattle.std.specs.List.{flat_map, list_all}
 use Rattle.std.specs.Str.{chars}
 use Rattle.template.proofs.Characters.{ascii-before, ascii-chars}
 use Rattle.template.proofs.Kept.{all-kept}
-use Rattle.template.specs.Hole.{hole_text, is_syntax, markup, markup_byte, plain, plain_char, plain_chars, plain_escape}
-use Rattle.template.specs.Shown.{allowed, escape, is_escaped, is_within, shown, shown_char}
-use Rattle.template.specs.declared.hole.Hole.{Hole}
-use Rattle.template.specs.declared.hole.Hole.TheVariants as hole
+use Rattle.template.specs.Hole.{is_syntax, markup, markup_byte, plain_char, plain_chars, plain_escape}
+use Rattle.template.specs.Shown.{escape, is_within}
 
 -- a hexadecimal digit
 abbrev is_hex : ℕ → Bool
@@ -27,21 +25,17 @@ glyph d h =
       | false ↦ λ e. grind (arith, nat_tests, e)
     ] refl
 
-hex-onto : (k base n : ℕ) (acc : List ℕ) → 0 < base → base < 17 → list_all is_hex acc ≡ true → list_all is_hex (digits_onto k base false n acc) ≡ true
-hex-onto zero base n acc low high h = h
-hex-onto (suc k) base n acc low high h =
-    let longer = digit_glyph false (n % base) ∷ acc in
-    let more : list_all is_hex longer ≡ true = ap (λ b. b && list_all is_hex acc) (glyph (n % base) (omega arith)) ∙ h in
-    elim (n / base == 0) as (λ b. list_all is_hex (if b then longer else digits_onto k base false (n / base) longer) ≡ true)
-    [ true ↦ more | false ↦ hex-onto k base (n / base) longer low high more ]
+hex-onto : (k n : ℕ) (acc : List ℕ) → list_all is_hex acc ≡ true → list_all is_hex (digits_onto k 16 false n acc) ≡ true
+hex-onto zero n acc h = h
+hex-onto (suc k) n acc h =
+    let longer = digit_glyph false (n % 16) ∷ acc in
+    let more : list_all is_hex longer ≡ true = ap (λ b. b && list_all is_hex acc) (glyph (n % 16) (omega arith)) ∙ h in
+    elim (n / 16 == 0) as (λ b. list_all is_hex (if b then longer else digits_onto k 16 false (n / 16) longer) ≡ true)
+    [ true ↦ more | false ↦ hex-onto k (n / 16) longer more ]
 
-pub hex-digits : (n : ℕ) → list_all is_hex (digits 16 false n) ≡ true
+hex-digits : (n : ℕ) → list_all is_hex (digits 16 false n) ≡ true
 unfolding digits
-hex-digits n = hex-onto 64 16 n [] (omega arith) (omega arith) refl
-
-decimal-digits : (n : ℕ) → list_all is_hex (decimal n) ≡ true
-unfolding digits
-decimal-digits n = hex-onto 64 10 n [] (omega arith) (omega arith) refl
+hex-digits n = hex-onto 64 n [] refl
 
 -- between tags and in the value of an attribute
 same-markup : (v : Bool) (b : ℕ) → is_hex b ≡ true → markup_byte v b ≡ b ∷ []
@@ -110,30 +104,3 @@ plain-escape s c cs =
     ap (plain_chars s) (ap (λ l. codes "\\u{" ++ l) (append_assoc (digits 16 false c) (codes "}") cs))
     ∙ (ap (λ l. codes "&#92;u&#123;" ++ l) (plain-hex false (digits 16 false c) cs (hex-digits c))
     ∙ ap (λ l. codes "&#92;u&#123;" ++ l) (sym (append_assoc (digits 16 false c) (codes "&#125;") (plain_chars false cs))))
-
--- a number is written as it is in each hole
-same-shown : (b : ℕ) → is_hex b ≡ true → shown_char b ≡ b ∷ []
-same-shown b h =
-    let kept : is_escaped b ≡ false = grind (arith, nat_tests, h) in
-    let same : allowed b ≡ b = grind (arith, nat_tests, h) in
-    rw kept (ap encode_utf8 same ∙ encode_ascii b (low b h))
-
-shown-digits : (ds : List ℕ) → list_all is_hex ds ≡ true → shown ds ≡ ds
-unfolding shown
-shown-digits ds h = ap (flat_map shown_char) (ascii-chars is_hex low ds h) ∙ all-kept shown_char is_hex same-shown ds h
-
-plain-digits : (s : Bool) (ds : List ℕ) → list_all is_hex ds ≡ true → plain_chars s ds ≡ ds
-plain-digits s [] h = refl
-plain-digits s (d ∷ ds) h =
-    let both = and_parts (is_hex d) (list_all is_hex ds) h in
-    ap (λ l. l ++ plain_chars (d == 32) ds) (same-plain s d both.0) ∙ ap (λ l. d ∷ l) (plain-digits (d == 32) ds both.1)
-
-written-digits : (kind : Hole) (ds : List ℕ) → list_all is_hex ds ≡ true → hole_text kind ds ≡ ds
-unfolding hole_text markup plain
-written-digits hole.Text ds h = ap (flat_map (markup_byte false)) (shown-digits ds h) ∙ all-kept (markup_byte false) is_hex (same-markup false) ds h
-written-digits hole.Attribute ds h = ap (flat_map (markup_byte true)) (shown-digits ds h) ∙ all-kept (markup_byte true) is_hex (same-markup true) ds h
-written-digits hole.Plain ds h =
-    ap (λ t. plain_chars true (chars t)) (shown-digits ds h) ∙ (ap (plain_chars true) (ascii-chars is_hex low ds h) ∙ plain-digits true ds h)
-
-pub written_decimal : (kind : Hole) (n : ℕ) → hole_text kind (decimal n) ≡ decimal n
-written_decimal kind n = written-digits kind (decimal n) (decimal-digits n)

@@ -84,7 +84,7 @@ same-open (o ∷ os) (q ∷ qs) h =
     ap (λ name. record { name = name; attributes = []; before = [] } ∷ map bare_open os) ((bytes_eq-Decides o.name q.name).0 both.0)
     ∙ ap (λ l. bare_open q ∷ l) (same-open os qs both.1)
 
-pub both-same : (x y : Reading) → same_state (bare x) (bare y) ≡ true → bare x ≡ bare y
+both-same : (x y : Reading) → same_state (bare x) (bare y) ≡ true → bare x ≡ bare y
 both-same (Content p) (Content q) h = ap (λ l. Content (record { trees = []; around = l })) (same-open p.around q.around h)
 both-same (AfterValue t) (AfterValue u) h =
     let both = and_parts _ _ h in
@@ -98,7 +98,7 @@ same-goes-on Refused y h = absurd (false≢true h)
 same-goes-on _ y h = refl
 
 -- what is rendered of these parts is read
-abbrev pub AreRead : Parts → Type 0
+abbrev AreRead : Parts → Type 0
 AreRead ps = (vs : Values) (r : Reading) → goes_on (after_parts ps (bare r)) ≡ true
     → Reads r (parts_text ps vs) (read_parts ps vs r) (after_parts ps (bare r))
 
@@ -155,7 +155,7 @@ is-over : (r : Reading) → is_end (bare r) ≡ true → IsOver r
 is-over (Content p) h = record { trees = in_order p.trees NoTrees; are = no-names p.trees p.around h }
 is-over _ h = absurd (false≢true h)
 
-pub end-goes : (r : Reading) → is_end r ≡ true → goes_on r ≡ true
+end-goes : (r : Reading) → is_end r ≡ true → goes_on r ≡ true
 end-goes (Content p) h = refl
 end-goes _ h = absurd (false≢true h)
 

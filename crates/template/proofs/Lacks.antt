@@ -5,7 +5,7 @@ use Rattle.std.proofs.lemmas.Bool.Decides.{nat_tests}
 use Rattle.std.proofs.lemmas.Str.{NoCharPasses-append, NoCharPasses-nil, encode_ascii}
 use Rattle.std.specs.Char.{encode_utf8}
 use Rattle.std.specs.Fmt.{decimal, digit_glyph, digits, digits_onto}
-use Rattle.std.specs.List.{flat_map, list_all}
+use Rattle.std.specs.List.{flat_map}
 use Rattle.std.specs.Str.{NoCharPasses}
 use Rattle.template.specs.Shown.{escape}
 
@@ -43,10 +43,6 @@ lacks-byte p b e =
 
 pub lacks-more : (p : ℕ → Bool) (b : ℕ) (bs : List ℕ) → visible p b ≡ true → Lacks p bs → Lacks p (b ∷ bs)
 lacks-more p b bs e h = both {xs = b ∷ []} (lacks-byte p b e) h
-
-pub lacks-word : (p : ℕ → Bool) (bs : List ℕ) → list_all (visible p) bs ≡ true → Lacks p bs
-lacks-word p [] e = none p
-lacks-word p (b ∷ bs) e = let parts = and_parts (visible p b) (list_all (visible p) bs) e in lacks-more p b bs parts.0 (lacks-word p bs parts.1)
 
 -- numbers, if printable characters of ASCII fail the test
 module _ (p : ℕ → Bool) (printable : (b : ℕ) → 32 ≤ b → b < 127 → visible p b ≡ true) where

@@ -13,12 +13,4 @@ pub mod Controls
 pub mod Parts
 pub mod Showing
 pub mod Document
-pub mod Sections
-pub mod Phrases
 pub mod Marking
-pub mod Frames
-pub mod Log
-pub mod Elements
-pub mod Contents
-pub mod Children
-pub mod Items

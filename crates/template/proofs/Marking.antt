@@ -137,7 +137,7 @@ same-ends _ _ h = absurd (false≢true h)
 -- from one state to another, a text has the marks of another text
 record Reads (s : Marking) (text own : List ℕ) (t : Marking) : Type 0 where
   pub after : run s text ≡ t
-  pub after_own : run s own ≡ t
+  after_own : run s own ≡ t
   pub same : marks_from s text ≡ marks_from s own
 
 nothing-read : {s : Marking} → Reads s [] [] s

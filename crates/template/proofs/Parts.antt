@@ -18,7 +18,7 @@ in-right {ys} {part} xs h =
     record { before = xs ++ h.before; after = h.after; is = ap (λ l. xs ++ l) h.is ∙ sym (append_assoc xs h.before (part ++ h.after)) }
 
 -- a part of a part
-pub in-part : {text part inner : List ℕ} → HasPart text part → HasPart part inner → HasPart text inner
+in-part : {text part inner : List ℕ} → HasPart text part → HasPart part inner → HasPart text inner
 in-part {text} {part} {inner} h k = subst (λ t. HasPart t inner) (sym h.is) (in-right h.before (in-left h.after k))
 
 -- what is rendered of items

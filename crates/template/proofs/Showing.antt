@@ -12,11 +12,11 @@ use Rattle.template.specs.Template.{EachPart, HolePart, NoParts, NonePart, OnePa
 use Rattle.template.specs.declared.hole.Hole.{Hole}
 use Rattle.template.specs.declared.hole.Hole.TheVariants as hole
 
-pub either-true : (a b : Bool) (P : Type 0) → (a ≡ true → P) → (b ≡ true → P) → (a || b) ≡ true → P
+either-true : (a b : Bool) (P : Type 0) → (a ≡ true → P) → (b ≡ true → P) → (a || b) ≡ true → P
 either-true true b P p q h = p refl
 either-true false b P p q h = q h
 
-pub one-kind : (k l : Hole) → same_kind k l ≡ true → k ≡ l
+one-kind : (k l : Hole) → same_kind k l ≡ true → k ≡ l
 one-kind hole.Text hole.Text h = refl
 one-kind hole.Attribute hole.Attribute h = refl
 one-kind hole.Plain hole.Plain h = refl

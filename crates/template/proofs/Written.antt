@@ -32,7 +32,7 @@ high-or : (v : Bool) (other : List ℕ) (b : ℕ) → 128 ≤ b → markup_or v 
 high-or true other b h = grind (arith, nat_tests)
 high-or false other b h = grind (arith, nat_tests)
 
-pub one-character : (v : Bool) (c : ℕ) → markup_or v (encode_utf8 c) c ≡ markup v (encode_utf8 c)
+one-character : (v : Bool) (c : ℕ) → markup_or v (encode_utf8 c) c ≡ markup v (encode_utf8 c)
 unfolding markup
 one-character v c = ⊎_elim
     (λ lt. ap (λ x. markup_or v x c) (encode_ascii c lt)
@@ -41,10 +41,10 @@ one-character v c = ⊎_elim
     (cases_lt c 128)
 
 -- a character that is shown as an escape, and one that is not
-pub shown-escape : (c : ℕ) → is_escaped c ≡ true → shown_char c ≡ escape c
+shown-escape : (c : ℕ) → is_escaped c ≡ true → shown_char c ≡ escape c
 shown-escape c h = rw h refl
 
-pub shown-other : (c : ℕ) → is_escaped c ≡ false → shown_char c ≡ encode_utf8 (allowed c)
+shown-other : (c : ℕ) → is_escaped c ≡ false → shown_char c ≡ encode_utf8 (allowed c)
 shown-other c h = rw h refl
 
 pub markup_escape : (v : Bool) (c : ℕ) → is_escaped c ≡ true → markup v (shown_char c) ≡ escape c

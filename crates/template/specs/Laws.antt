@@ -1,16 +1,13 @@
 -- Laws of all templates and all values.
-use Rattle.std.specs.Prelude.{◌≡◌, ℕ, true, List, Some, slice_get}
-use Rattle.std.specs.List.{All, Contains, flat_map}
-use Rattle.template.specs.Check.{at_start, is_sound}
+use Rattle.std.specs.Prelude.{◌≡◌, ℕ, true, List, Some}
+use Rattle.std.specs.List.{All}
+use Rattle.template.specs.Check.{is_sound}
 use Rattle.template.specs.Clean.{HasNoControls, is_clean}
 use Rattle.template.specs.Document.{filled_tree, is_document}
-use Rattle.template.specs.Elements.{elements_named, elements_of, parts_end_in}
 use Rattle.template.specs.Filled.{filled_trees, read_trees}
 use Rattle.template.specs.Hole.{hole_text}
 use Rattle.template.specs.Marks.{is_markdown, marks, own_marks}
-use Rattle.template.specs.Phrases.{has_phrase}
 use Rattle.template.specs.Reader.{read_tree}
-use Rattle.template.specs.Sections.{sections}
 use Rattle.template.specs.Shows.{HasPart, items_at, parts_show}
 use Rattle.template.specs.Template.{Parts, Values, parts_text, text_of}
 use Rattle.template.specs.Tree.{TreeView, Trees}
@@ -35,25 +32,6 @@ abbrev pub ShowsValues : Type 0
 ShowsValues = (ps : Parts) (vs : Values) (kind : Hole) (path : List (List ℕ)) (name : List ℕ) → parts_show ps kind path name ≡ true
     → All (λ i. HasPart (parts_text ps vs) (hole_text kind (text_of name i))) (items_at path vs)
 
--- What a template renders has, for each item on a path, what each section on this path renders of the item.
-abbrev pub ShowsSections : Type 0
-ShowsSections = (ps : Parts) (vs : Values) (path : List (List ℕ)) (b : Parts) → Contains (sections ps path) b
-    → All (λ i. HasPart (parts_text ps vs) (parts_text b i)) (items_at path vs)
-
--- What is next to each other in a template is next to each other in what it renders: if a section on a path has a phrase, then what is rendered
--- has, for each item on this path, what the phrase renders of the item.
-abbrev pub ShowsPhrases : Type 0
-ShowsPhrases = (ps : Parts) (vs : Values) (path : List (List ℕ)) (phrase : Parts) → has_phrase ps path phrase ≡ true
-    → All (λ i. HasPart (parts_text ps vs) (parts_text phrase i)) (items_at path vs)
-
 -- What is rendered has the marks of the template and no others: a line, a cell and a `<pre>` end where the template ends them, whatever the values are.
 abbrev pub NoValueIsMark : Type 0
 NoValueIsMark = (ps : Parts) (vs : Values) → is_markdown ps ≡ true → marks (parts_text ps vs) ≡ own_marks ps vs
-
--- If elements with a name end only in one section of a sound template, the elements with this name in what it renders are those of each
--- item of this section, in this order.
-abbrev pub ShowsElements : Type 0
-ShowsElements = (name : List ℕ) (ps : Parts) (vs : Values) (path : List (List ℕ)) (b : Parts)
-    → is_sound ps ≡ true → parts_end_in name path ps at_start ≡ true → slice_get (sections ps path) 0 ≡ Some b
-    → (trees : Trees) × (read_trees (parts_text ps vs) ≡ Some trees) × (filled_trees ps vs ≡ Some trees)
-    × (elements_named name trees ≡ flat_map (elements_of name b) (items_at path vs))

@@ -10,9 +10,5 @@ pub mod Clean
 pub mod Shows
 pub mod Document
 pub mod Html
-pub mod Sections
-pub mod Phrases
 pub mod Marks
-pub mod Children
-pub mod Elements
 pub mod Laws

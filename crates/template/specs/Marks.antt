@@ -1,9 +1,8 @@
 -- What Markdown can read as its own: lines, cells and tags end at marks.
-use Rattle.std.specs.Prelude.{◌&&◌, ◌||◌, ◌==◌, ◌++◌, ◌∷◌, [], ℕ, Bool, true, false, not, List, codes, if◌then◌else◌}
+use Rattle.std.specs.Prelude.{◌&&◌, ◌||◌, ◌==◌, ◌++◌, ◌∷◌, [], ℕ, Bool, true, false, not, List, codes, if◌then◌else◌, map}
 use Rattle.std.specs.Char.{is_ascii_punctuation}
 use Rattle.std.specs.List.{fold}
 use Rattle.std.specs.Str.{bytes_eq}
-use Rattle.template.specs.Phrases.{begin_with, part_pieces, pieces, same_part}
 use Rattle.template.specs.Reader.{is_letter}
 use Rattle.template.specs.Template.{EachPart, HolePart, NoParts, NonePart, OnePart, PartView, Parts, TextPart, Values, parts_text}
 use Rattle.template.specs.declared.hole.Hole.{Hole}
@@ -102,15 +101,36 @@ abbrev mutual
   are_placed s NoParts = true
   are_placed s (OnePart p ps) = is_placed s p && are_placed (marking_after s p) ps
 
+-- the pieces of a part: a text byte by byte, and anything else as it is
+abbrev pub part_pieces : PartView → List PartView
+part_pieces (TextPart text) = map (λ b. TextPart (b ∷ [])) text
+part_pieces p = p ∷ []
+
+-- the pieces of parts
+abbrev pub pieces : Parts → List PartView
+pieces NoParts = []
+pieces (OnePart p ps) = part_pieces p ++ pieces ps
+
+-- a piece is this byte
+abbrev pub is_byte : ℕ → PartView → Bool
+is_byte b (TextPart text) = bytes_eq text (b ∷ [])
+is_byte b _ = false
+
 -- a piece is a line feed
 abbrev pub is_feed : PartView → Bool
-is_feed p = same_part p (TextPart (10 ∷ []))
+is_feed p = is_byte 10 p
+
+-- the first pieces are the bytes of a text
+abbrev pub begin_with : List PartView → List ℕ → Bool
+begin_with ps [] = true
+begin_with [] (b ∷ text) = false
+begin_with (p ∷ ps) (b ∷ text) = is_byte b p && begin_with ps text
 
 -- each `<pre>` among pieces, of which the first ones come after these two, is after two line feeds
 abbrev pub pre_after_feeds : PartView → PartView → List PartView → Bool
 pre_after_feeds p q [] = true
 pre_after_feeds p q (r ∷ ps) =
-    (not (begin_with (r ∷ ps) (part_pieces (TextPart (codes "<pre>")))) || (is_feed p && is_feed q)) && pre_after_feeds q r ps
+    (not (begin_with (r ∷ ps) (codes "<pre>")) || (is_feed p && is_feed q)) && pre_after_feeds q r ps
 
 -- each `<pre>` of a list of pieces is after two line feeds
 abbrev pub begins_pre : List PartView → Bool

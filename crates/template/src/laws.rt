@@ -1,6 +1,6 @@
 //! Laws of templates: facts that hold for every template and all values.
 
-ghost use Rattle.template.specs.Laws.{NoValueIsMark, NoValueIsMarkup, RendersNoControls, RendersOneTree, ShowsElements, ShowsPhrases, ShowsSections, ShowsValues};
+ghost use Rattle.template.specs.Laws.{NoValueIsMark, NoValueIsMarkup, RendersNoControls, RendersOneTree, ShowsValues};
 
 /// What is rendered has no control characters except tabs and line feeds, and no characters that change the direction
 /// of writing, if the template has none.
@@ -27,26 +27,8 @@ pub fn renders_one_tree()
     ensures { RendersOneTree }
 {}
 
-/// What is rendered has, for each item in the sections with these names, what each of the innermost ones renders of it.
-pub fn shows_sections()
-    ensures { ShowsSections }
-{}
-
-/// What is next to each other in a template is next to each other in what it renders. A phrase is itself a template. If
-/// the innermost of the sections with these names has its parts in a row, then what is rendered has, for each item in
-/// these sections, what the phrase renders of it.
-pub fn shows_phrases()
-    ensures { ShowsPhrases }
-{}
-
 /// What a template of Markdown renders has the marks of the template and no others: a line, a cell of a table and a
 /// `<pre>` end where the template ends them, whatever the values are.
 pub fn no_value_is_mark()
     ensures { NoValueIsMark }
-{}
-
-/// If elements with a name end only in one section of a sound template, the elements with this name in what is rendered
-/// are those of each item of this section, in this order.
-pub fn shows_elements()
-    ensures { ShowsElements }
 {}

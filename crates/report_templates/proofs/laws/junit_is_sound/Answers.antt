@@ -1,0 +1,33 @@
+-- Each part of the law is computed by itself, so that the name of a refused declaration says what is wrong.
+use Rattle.std.proofs.Common.{◌≡◌, refl, true}
+use Rattle.std.specs.Char.{encode_utf8}
+use Rattle.std.specs.Option.{IsSome}
+use Rattle.std.specs.Str.{chars}
+use Rattle.report_templates.proofs.Parsed.{parts-of, passed, passes}
+use Rattle.report_templates.specs.Sound.{junit_parts}
+use Rattle.report_templates.specs.declared.junit_template.TheConstants.{JUNIT}
+use Rattle.template.specs.Clean.{is_clean}
+use Rattle.template.specs.Document.{is_document}
+use Rattle.template.specs.Parse.{parse}
+use Rattle.template.specs.Reader.{step}
+use Rattle.report_templates.proofs.laws.junit_is_sound.Goals as goal
+
+is-template : IsSome (parse JUNIT.now)
+unfolding parse chars encode_utf8
+is-template = refl
+
+is-one-element : passes is_document (parse JUNIT.now) ≡ true
+unfolding is_document parse step chars encode_utf8
+is-one-element = refl
+
+has-no-controls : passes is_clean (parse JUNIT.now) ≡ true
+unfolding parse chars encode_utf8
+has-no-controls = refl
+
+pub returns : goal.returns
+unfolding junit_parts
+returns c = record {
+  parsed = parts-of (parse JUNIT.now) is-template;
+  document = passed is_document (parse JUNIT.now) is-one-element;
+  clean = passed is_clean (parse JUNIT.now) has-no-controls;
+}
