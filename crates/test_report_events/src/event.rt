@@ -31,7 +31,8 @@ impl fmt::Display for SuiteKey<'_> {
     }
 }
 
-/// The last line of a suite.
+/// The last line of a suite. A number of tests is `None` if the line does not have it, or if it needs more than 32
+/// bits.
 #[derive(Clone, Copy, Debug, PartialEq, Eq)]
 pub struct SuiteEnd<'a> {
     /// The key of the suite, if it has one.
@@ -52,7 +53,7 @@ pub struct SuiteEnd<'a> {
     /// The number of benchmarks that were measured.
     pub measured: Option<u64>,
 
-    /// The time that the suite took, in microseconds.
+    /// The time that the suite took, in microseconds, rounded down.
     pub time: Option<u64>,
 }
 
@@ -81,7 +82,7 @@ pub struct TestDetails<'a> {
     /// The reason that the harness gives for a failure, or `None` if it is absent or empty.
     pub reason: Option<&'a str>,
 
-    /// The time that the test took, in microseconds.
+    /// The time that the test took, in microseconds, rounded down.
     pub time: Option<u64>,
 }
 
@@ -93,7 +94,8 @@ pub enum Event<'a> {
         /// The key of the suite, if it has one.
         key: Option<SuiteKey<'a>>,
 
-        /// The number of its tests, including ignored ones.
+        /// The number of its tests, including ignored ones. It is `None` if the line does not have it, or if it
+        /// needs more than 32 bits.
         test_count: Option<u64>,
     },
 
@@ -118,7 +120,7 @@ pub enum Event<'a> {
         details: TestDetails<'a>,
     },
 
-    /// A test is slow: it has been running for a while.
+    /// A running test is slow: the harness says so by the event `timeout`.
     TestSlow {
         /// The name in the line.
         name: &'a str,
@@ -176,7 +178,8 @@ pub enum CargoFailure {
     /// A crate could not be compiled, or its build script failed. A failed test is never the cause.
     Build,
 
-    /// One or several test binaries failed.
+    /// One or several test binaries failed, or tests could not be run: no test target has the name, the list of
+    /// tests could not be made, or a setup script failed.
     Tests,
 
     /// The run failed. It is reported once, after the last test binary.

@@ -37,7 +37,8 @@ pub struct Line {
 }
 
 impl Line {
-    /// Parses a line. `bytes` is the line without its line feed. It may end with a carriage return.
+    /// Parses a line. `bytes` is the line without its line feed. It may end with a carriage return, and need not be
+    /// UTF-8. A line that is no event of a harness, no heading and no failure of cargo is a print.
     ///
     /// If the whole line is not JSON, the parser starts again at the last `{ "type"` or `{"type"` in it. So
     /// it finds an event even if a test printed text at the start of the same line. Headings and failures of

@@ -40,12 +40,6 @@ module _ {r : RunState} {t : Step} (only : OnlyReports r t) (w : NoteView → �
       ∙ (sum-map w (λ (report : CargoView). Disagrees (CargoSays report)) only.reports
       ∙ sum-none (λ (report : CargoView). w (Disagrees (CargoSays report))) none only.reports)
 
-  pub reports-one : ((report : CargoView) → w (Disagrees (CargoSays report)) ≡ 1) → sum_by w t.notes ≡ length only.reports
-  reports-one one =
-      ap (sum_by w) only.notes_are
-      ∙ (sum-map w (λ (report : CargoView). Disagrees (CargoSays report)) only.reports
-      ∙ sum-ones (λ (report : CargoView). w (Disagrees (CargoSays report))) one only.reports)
-
 -- no failure of cargo becomes known
 only-same : (r : RunState) → OnlyReports r (step r [])
 only-same r = record { reported = r.reported; held = r.held; causes = r.causes; run_is = refl; reports = []; notes_are = refl }

@@ -1,5 +1,4 @@
--- The types that the run and the forms keep to themselves. Each is the type of what a definition takes.
-use Rattle.test_report_forms.specs.JunitSuite.{with_counts}
+-- The types that the run keeps to itself. Each is the type of what a definition takes.
 use Rattle.test_report_run.specs.Over.{initial_of, lost}
 use Rattle.test_report_run.specs.Said.{numbers_of}
 
@@ -21,7 +20,3 @@ Rest = second_of initial_of
 -- what the last lines of a suite said
 abbrev pub Said : Type 0
 Said = first_of numbers_of
-
--- the counts of test cases in JUnit's XML
-abbrev pub JunitCounts : Type 0
-JunitCounts = first_of with_counts

@@ -1,11 +1,3 @@
-pub mod Cancellation
-pub mod Colours
-pub mod Commands
-pub mod Forms
-pub mod Json
-pub mod Junit
-pub mod Lines
-pub mod Report
 pub mod Run
 pub mod Status
 pub mod Whole

@@ -1,5 +1,5 @@
 -- Laws of a run.
-use Rattle.std.specs.Prelude.{◌++◌, ◌≡◌, ◌≢◌, All, IfSome, None, Some, ◌≤◌, ◌<◌, ◌⊎◌, ◌↔◌, ◌+◌, ◌&&◌, [], ◌∷◌, ⊤, ℕ, Bool, true, false, Contains, IsTrue, List, if◌then◌else◌, length, nat_lt, Option, option_map}
+use Rattle.std.specs.Prelude.{◌++◌, ◌≡◌, ◌≢◌, All, IfSome, None, Some, ◌≤◌, ◌<◌, ◌⊎◌, ◌↔◌, ◌+◌, ◌&&◌, [], ℕ, Bool, true, false, Contains, IsTrue, List, if◌then◌else◌, length, nat_lt}
 use Rattle.std.specs.List.{count_by, sum_by}
 use Rattle.run_events_stats.specs.declared.outcome.run_outcome.RunOutcome.{RunOutcome}
 use Rattle.run_events_stats.specs.declared.outcome.run_outcome.RunOutcome.TheVariants as outcome
@@ -7,13 +7,13 @@ use Rattle.test_report_events.specs.Event.{EventView, SuiteEndView, TestEndView,
 use Rattle.test_report_events.specs.declared.event.CargoFailure.{CargoFailure}
 use Rattle.test_report_events.specs.declared.event.TestResult.{TestResult}
 use Rattle.test_report_events.specs.declared.event.TestResult.TheVariants.{Ok, Failed, Ignored}
-use Rattle.test_report_run_notes.specs.Note.{CrashView, Disagrees, Fails, FlakyEnds, HasCrashed, HasFailed, HasNoEnd, HasTimedOut, IsFlaky, IsNotRun, IsSkipped, KindView, NoteView, OutcomeView, Passes, SuiteIs, SuiteNoteView, TestIs, TestNoteView, failed_of}
+use Rattle.test_report_run_notes.specs.Note.{Disagrees, Fails, FlakyEnds, HasCrashed, HasFailed, HasNoEnd, HasTimedOut, IsFlaky, IsNotRun, IsSkipped, KindView, NoteView, OutcomeView, Passes, SuiteIs, SuiteNoteView, TestIs, TestNoteView, failed_of}
 use Rattle.test_report_run_notes.specs.declared.note.RunEnd.{RunEnd}
 use Rattle.test_report_run_notes.specs.declared.note.SaidNumbers.{SaidNumbers}
 use Rattle.test_report_run.specs.Events.{is_event}
 use Rattle.test_report_run.specs.Ended.{failure_of}
 use Rattle.test_report_run.specs.Others.{OthersView}
-use Rattle.test_report_run.specs.Over.{crash_again, early_notes, last_notes}
+use Rattle.test_report_run.specs.Over.{early_notes, last_notes}
 use Rattle.test_report_run.specs.FileEnd.{file_notes}
 use Rattle.test_report_run.specs.Run.{RunSettings, RunState, counts_tests, has_failed, is_disagreement, notes_at, open_suite, run_start, told}
 use Rattle.test_report_run.specs.Running.{RunningView, ends_in_number, without_number}
@@ -233,51 +233,6 @@ abbrev pub LastLineAgrees : Type 0
 LastLineAgrees = (s : SuiteState) → (tests : List RunningView) → s.number ≢ None → IsSound s
     → (disagreements_in (last_notes s tests) ≡ 0)
     ↔ Agrees (numbers_of s.said) (s.stats.passed + passed_in (last_notes s tests)) (failed_of s.stats + failed_in (last_notes s tests))
-
--- a crashed test: its suite, and how it crashed
-pub record Crashed : Type 0 where
-  pub suite : Option (List ℕ)
-  pub crash : CrashView
-
--- a crash, if a failure of this kind is one
-abbrev pub crash_of_kind : KindView → Option CrashView
-crash_of_kind HasFailed = None
-crash_of_kind HasTimedOut = None
-crash_of_kind HasNoEnd = None
-crash_of_kind IsFlaky = None
-crash_of_kind (HasCrashed crash) = Some crash
-
--- a crash, if a test that counts so crashed
-abbrev pub crash_of_outcome : OutcomeView → Option CrashView
-crash_of_outcome (Passes output) = None
-crash_of_outcome (IsSkipped reason) = None
-crash_of_outcome (Fails failure) = crash_of_kind failure.kind
-
--- the crashed test of a note, if it is of one
-abbrev pub crashed_test : NoteView → Option Crashed
-crashed_test (TestIs t) = option_map (λ c. record { suite = t.suite; crash = c }) (crash_of_outcome t.outcome)
-crashed_test (FlakyEnds t) = None
-crashed_test (Disagrees d) = None
-crashed_test (IsNotRun suite n of) = None
-crashed_test (SuiteIs s) = None
-
--- two tests of one suite crashed, and the same is known of both crashes, except which of them was the first
-abbrev pub CrashedTogether : Crashed → Crashed → Type 0
-CrashedTogether a b = (a.suite ≡ b.suite) × (crash_again a.crash ≡ crash_again b.crash)
-
--- the crashed test is the first one of its suite, or the note before its own is of one that crashed together with it
-abbrev pub IsFirstOrBelow : Option Crashed → Crashed → Type 0
-IsFirstOrBelow before c = c.crash.above ≡ true → (other : Crashed) × (before ≡ Some other) × CrashedTogether other c
-
--- this is true of each crashed test of notes that come after a note
-abbrev pub AreBelow : Option Crashed → List NoteView → Type 0
-AreBelow before [] = ⊤
-AreBelow before (n ∷ notes) = IfSome (crashed_test n) (IsFirstOrBelow before) × AreBelow (crashed_test n) notes
-
--- In every run the note of each crashed test that is not the first of its suite comes right after that of a test of the suite that crashed in the same
--- way.
-abbrev pub CrashesFollow : Type 0
-CrashesFollow = (settings : RunSettings) → (files : List (List EventView)) → AreBelow None (all_notes settings files)
 
 -- A suite that ends early makes a crashed test or a disagreement known, and so does a file with tests outside of a suite.
 abbrev pub EarlyEndShows : Type 0

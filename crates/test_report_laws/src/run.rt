@@ -1,6 +1,6 @@
 //! Laws of a run.
 
-ghost use Rattle.test_report_laws.specs.Run.{CargoFailureShows, CleanEndIsWhole, CommandEndShows, CrashesFollow, DamagedLineShows, EarlyEndShows, FailedLineShows, FailedLinesAreTold, FailedVerdictShows, FailureIsTold, FailuresAreKnown, LastLineAgrees, NoEventShows, NoFailureOfFileEnd, OneFailureOfLine, OutcomeMeans, StrayEndShows, SuitesAreSound, TotalsAreCounts};
+ghost use Rattle.test_report_laws.specs.Run.{CargoFailureShows, CleanEndIsWhole, CommandEndShows, DamagedLineShows, EarlyEndShows, FailedLineShows, FailedLinesAreTold, FailedVerdictShows, FailureIsTold, FailuresAreKnown, LastLineAgrees, NoEventShows, NoFailureOfFileEnd, OneFailureOfLine, OutcomeMeans, StrayEndShows, SuitesAreSound, TotalsAreCounts};
 ghost use Rattle.test_report_laws.specs.Status.{AnnouncedAreCounted, FailureHasReason, NotRunIsNamed, SuccessIsInOrder};
 
 /// A line that says that a test failed makes exactly one such failure known, with the name in the line,
@@ -34,12 +34,6 @@ pub fn nothing_is_hidden()
     ensures stray_ends { StrayEndShows }
     ensures sound { SuitesAreSound }
     ensures known { FailuresAreKnown }
-{}
-
-/// The note of each crashed test that is not the first of its suite (`above`) comes right after that of a test of the suite
-/// that crashed in the same way. `text` writes `as above` for the explanation of such a test.
-pub fn crashes_follow()
-    ensures { CrashesFollow }
 {}
 
 /// Each line of a whole run that says that a test failed makes a failed test known. If there is such a

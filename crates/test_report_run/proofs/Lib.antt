@@ -1,10 +1,8 @@
 pub mod Attempts
 pub mod Crashes
 pub mod Ends
-pub mod EventsFit
 pub mod FileEnds
 pub mod Finishes
-pub mod Fits
 pub mod FirstTests
 pub mod Firsts
 pub mod HeadingViews
@@ -14,7 +12,6 @@ pub mod Lines
 pub mod LongestEnds
 pub mod OpenSteps
 pub mod OrderSteps
-pub mod RunFits
 pub mod Runs
 pub mod Takes
 pub mod Views

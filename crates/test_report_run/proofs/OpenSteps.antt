@@ -112,9 +112,6 @@ has-own-at : (own : Option (List ℕ)) (s : SuiteState) → s.key ≡ own → ha
 has-own-at None s is = rw is refl
 has-own-at (Some key) s is = rw is (grind (arith, bytes_eq-Decides key key))
 
-pub has-own : (s : SuiteState) → has_key s.key s ≡ true
-has-own s = has-own-at s.key s refl
-
 own-by : (key own : Option (List ℕ)) (s : SuiteState) → s.key ≡ own → has_key key s ≡ true → own ≡ key
 own-by None None s is has = refl
 own-by None (Some own) s is has = absurd (false≢true (sym (ap is_none is) ∙ has))
@@ -385,9 +382,6 @@ pushed-number suites b ns n same is =
 
 pub pushed-key : (suites : List (Box Suite Global)) (b : Box Suite Global) → keys_in (suites ++ b ∷ []) ≡ keys_in suites ++ text_view b.value.name.key ∷ []
 pushed-key suites b = map-append (λ x. text_view x.value.name.key) suites (b ∷ [])
-
-pub pushed-state : (suites : List (Box Suite Global)) (b : Box Suite Global) → states_in (suites ++ b ∷ []) ≡ states_in suites ++ state_of b.value ∷ []
-pushed-state suites b = map-append (λ x. state_of x.value) suites (b ∷ [])
 
 -- a suite that keeps its number and its key changes
 pub set-kept : {X Y : Type 0} (f : X → Y) (xs : List X) (i : ℕ) (old new : X) → old ≡ get_or xs i old → f new ≡ f old → map f (set xs i new) ≡ map f xs

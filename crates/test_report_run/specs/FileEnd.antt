@@ -1,14 +1,14 @@
 -- The end of a file, and of a run.
-use Rattle.std.specs.Prelude.{◌-◌, ◌++◌, ◌==◌, ◌∷◌, ◌||◌, ◌&&◌, [], ℕ, List, Bool, true, false, length, map, nat_lt, not, if◌then◌else◌, drop, slice_get, Option, None}
+use Rattle.std.specs.Prelude.{◌-◌, ◌++◌, ◌==◌, ◌∷◌, ◌||◌, ◌&&◌, [], ℕ, List, Bool, true, false, length, map, nat_lt, not, if◌then◌else◌, drop, slice_get, Option, None, Some}
 use Rattle.std.specs.List.{fold}
 use Rattle.std.specs.Option.{option_map_or}
-use Rattle.test_report_events.specs.Event.{BySignal, CommandView, NotStarted, WithStatus}
+use Rattle.test_report_events.specs.Event.{BySignal, CommandOver, CommandView, NotStarted, WithStatus}
 use Rattle.test_report_run_notes.specs.Note.{CargoSays, CargoView, CommandFails, Disagrees, HasNoEvent, NoteView, ended_well, was_not_started}
 use Rattle.test_report_run_notes.specs.declared.note.RunEnd.{RunEnd}
 use Rattle.test_report_run.specs.Others.{no_others}
 use Rattle.test_report_run.specs.Suite.{outside_start}
 use Rattle.test_report_run.specs.Totals.{ending}
-use Rattle.test_report_run.specs.Run.{RunState, Step, step, ended_early, settled, learned}
+use Rattle.test_report_run.specs.Run.{RunState, Step, step, after, ended_early, settled, learned}
 
 -- a failure of cargo when the command has ended. It does not lack events if there was one, before the failure or after it
 abbrev pub at_end : Bool → CargoView → CargoView
@@ -89,3 +89,8 @@ after_file r = begun (learned (file_end r).run (file_notes r))
 -- the sums and the outcome
 abbrev pub end_of : RunState → RunEnd
 end_of r = ending r.totals r.disagreements
+
+-- the run before the end of its last file, when it is known how the command ended that wrote the file, if one did
+abbrev pub with_command : RunState → Option CommandView → RunState
+with_command r None = r
+with_command r (Some end) = after r (CommandOver end)

@@ -1,7 +1,6 @@
 pub mod Ended
 pub mod Events
 pub mod FileEnd
-pub mod Fits
 pub mod Headings
 pub mod Keys
 pub mod LastLine
@@ -14,7 +13,6 @@ pub mod Over
 pub mod Prints
 pub mod Progress
 pub mod Run
-pub mod RunFits
 pub mod Running
 pub mod Said
 pub mod Suite

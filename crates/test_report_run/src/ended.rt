@@ -1,12 +1,10 @@
 //! The ends of the tests of a suite.
 
 ghost use Rattle.std.specs.Prelude.{◌≡◌, ◌++◌, [], IfOk, OnOk, map, option_map};
-ghost use Rattle.run_events_stats.specs.Counters.{TestCountersFit};
 ghost use Rattle.test_report_events.specs.Event.{test_end_view};
 ghost use Rattle.test_report_events.specs.declared.event.TestResult.TheVariants as ended;
 ghost use Rattle.test_report_run_notes.specs.Note.{failure_view, note_view, text_view};
 ghost use Rattle.test_report_run.specs.Ended as spec;
-ghost use Rattle.test_report_run.specs.Fits.{OnlyMemory, SuiteFits};
 ghost use Rattle.test_report_run.specs.Suite.{over_view, state_of};
 
 use crate::counted::count;
@@ -49,7 +47,7 @@ fn failure_of(alloc: Global, details: TestDetails<'_>) -> Result<Failure, AllocE
 
 impl Suite {
     /// Takes the end of a test, and adds its note. `order` is the number of tests that started before it. A
-    /// test that passed after several attempts is kept, and has another note when its suite is over. Fails only if
+    /// test that passed after several attempts is kept, and has another note when its suite is over. Fails if
     /// memory runs out, or a number of the suite does not fit.
     pub(crate) fn on_end(
         &mut self,
@@ -65,8 +63,6 @@ impl Suite {
         ensures tells { OnOk result (map note_view notes.new.items ≡ map note_view notes.old.items
             ++ spec.end_notes (state_of self.old) (over_view test)
             (test_end_view [] end details.entry)) }
-        ensures room { SuiteFits (spec.after_end (state_of self.old)
-            (over_view test) order (test_end_view [] end details.entry)) → OnlyMemory result }
         ensures number { self.new.name.number ≡ self.old.name.number }
         ensures key { text_view self.new.name.key ≡ text_view self.old.name.key }
     {
@@ -92,7 +88,7 @@ impl Suite {
         Ok(())
     }
 
-    /// Takes the end of a test that was not running. Fails only if memory runs out, or a number of the suite does not
+    /// Takes the end of a test that was not running. Fails if memory runs out, or a number of the suite does not
     /// fit.
     pub(crate) fn on_stray_end(
         &mut self,
@@ -107,8 +103,6 @@ impl Suite {
         ensures tells { OnOk result (map note_view notes.new.items ≡ map note_view notes.old.items
             ++ spec.stray_notes (state_of self.old) (over_view test)
             (test_end_view [] end details.entry)) }
-        ensures room { SuiteFits (spec.after_stray (state_of self.old)
-            (over_view test) (test_end_view [] end details.entry)) → OnlyMemory result }
         ensures number { self.new.name.number ≡ self.old.name.number }
         ensures key { text_view self.new.name.key ≡ text_view self.old.name.key }
     {
@@ -129,8 +123,6 @@ impl Suite {
         ensures tells { OnOk result (map note_view notes.new.items ≡ map note_view notes.old.items
             ++ spec.failed_note (state_of self.old) (over_view test)
             (test_end_view [] ended.Failed details.entry)) }
-        ensures room { TestCountersFit (spec.after_failed (state_of self.old)
-            (over_view test) (test_end_view [] ended.Failed details.entry)).stats → OnlyMemory result }
         ensures number { self.new.name.number ≡ self.old.name.number }
         ensures key { text_view self.new.name.key ≡ text_view self.old.name.key }
     {

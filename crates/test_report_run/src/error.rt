@@ -1,6 +1,6 @@
 //! The errors of a run that cannot be counted.
 
-ghost use Rattle.std.specs.Prelude.{◌≡◌, ◌+◌, ◌<◌, ◌^◌, ◌↔◌, IfOk, IsOk};
+ghost use Rattle.std.specs.Prelude.{◌≡◌, ◌+◌, ◌<◌, IfOk};
 
 use run_events_stats::stats::CounterFull;
 use std::alloc::{AllocError, AllocFailed};
@@ -8,7 +8,8 @@ use std::alloc::{AllocError, AllocFailed};
 /// Why a run cannot be counted.
 #[derive(Clone, Copy, Debug, PartialEq, Eq)]
 pub enum RunError {
-    /// A number does not fit its counter.
+    /// A number of the run does not fit its counter: a number of tests, suites, prints, headings, or failed tests and
+    /// disagreements does not fit `usize`, or a sum of numbers in last lines of suites does not fit 128 bits.
     CounterFull,
 
     /// There was not enough memory.
@@ -48,10 +49,9 @@ impl<T: Drop> From<AllocFailed<T>> for RunError {
     }
 }
 
-/// Increments a counter. Fails only if it is `usize::MAX`.
+/// Increments a counter. Fails if it is `usize::MAX`.
 pub(crate) fn one_more(count: usize) -> Result<usize, RunError>
     ensures more { IfOk result (λ more. more ≡ count + 1) }
-    ensures fits { IsOk result ↔ (count + 1 < 2 ^ 64) }
 {
     count.checked_add(1).ok_or(RunError::CounterFull)
 }

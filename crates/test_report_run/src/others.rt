@@ -3,7 +3,6 @@
 ghost use Rattle.std.specs.Prelude.{◌≡◌, ◌==◌, ◌++◌, ◌∷◌, [], IfOk, OnOk, map, not, option_map, slice_get, string_bytes};
 ghost use Rattle.std.specs.List.{position};
 ghost use Rattle.test_report_run_notes.specs.Note.{text_view};
-ghost use Rattle.test_report_run.specs.Fits.{OnlyMemory, OthersFit};
 ghost use Rattle.test_report_run.specs.Others as spec;
 ghost use Rattle.test_report_run.specs.Others.{others_view, reported_view};
 ghost use Rattle.test_report_run.specs.Prints.{no_prints, prints_view};
@@ -96,7 +95,7 @@ impl Others {
         }
     }
 
-    /// Takes a print. Fails only if memory runs out, or the number of prints does not fit.
+    /// Takes a print. Fails if memory runs out, or the number of prints does not fit.
     pub(crate) fn on_print(
         &mut self,
         alloc: Global,
@@ -105,7 +104,6 @@ impl Others {
     ) -> Result<(), RunError>
         ensures takes { OnOk result (others_view self.new
             ≡ spec.after_print (others_view self.old) line.now plain.now) }
-        ensures room { OthersFit (spec.after_print (others_view self.old) line.now plain.now) → OnlyMemory result }
     {
         self.prints.take_print(alloc, line)?;
         if self.stage == Stage::CausedBy {
@@ -128,10 +126,9 @@ impl Others {
         Ok(())
     }
 
-    /// Takes a heading. Fails only if memory runs out, or the number of headings does not fit.
+    /// Takes a heading. Fails if memory runs out, or the number of headings does not fit.
     pub(crate) fn on_heading(&mut self, alloc: Global) -> Result<(), RunError>
         ensures takes { OnOk result (others_view self.new ≡ spec.after_heading (others_view self.old)) }
-        ensures room { OthersFit (spec.after_heading (others_view self.old)) → OnlyMemory result }
     {
         self.end_part(alloc)?;
         self.headings = one_more(self.headings)?;

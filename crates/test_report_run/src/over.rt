@@ -1,13 +1,10 @@
 //! A suite that is over.
 
-ghost use Rattle.std.specs.Prelude.{◌≡◌, ◌++◌, ◌∷◌, [], ◌+◌, ◌<◌, ◌^◌, is_some, IfOk, IsOk, OnOk, map, true, length, if◌then◌else◌, ◌≤◌};
-ghost use Rattle.run_events_stats.specs.Counters.{TestCountersFit};
+ghost use Rattle.std.specs.Prelude.{◌≡◌, ◌++◌, ◌∷◌, [], ◌+◌, ◌<◌, is_some, IfOk, OnOk, map, true, length, if◌then◌else◌, ◌≤◌};
 ghost use Rattle.test_report_run_notes.specs.Note.{HasCrashed, HasNoEnd, crash_view, kind_view, note_view};
-ghost use Rattle.test_report_run.specs.Fits.{ExplainedFits, FitsWide, OnlyMemory};
 ghost use Rattle.test_report_run.specs.Others.{others_view};
 ghost use Rattle.test_report_run.specs.Over as spec;
 ghost use Rattle.test_report_run.specs.Running.{running_test_view, running_view};
-ghost use Rattle.test_report_run.specs.Said.{numbers_of};
 ghost use Rattle.test_report_run.specs.Suite.{flaky_view, over_view, state_of};
 
 use crate::counted::count;
@@ -85,7 +82,7 @@ impl Suite {
     }
 
     /// Ends the suite without a last line, and adds its notes. `left` are its running tests, which crashed. `others`
-    /// are the lines of the file that are no events. Fails only if memory runs out, or a number of the suite does not
+    /// are the lines of the file that are no events. Fails if memory runs out, or a number of the suite does not
     /// fit.
     pub(crate) fn end_early(
         mut self,
@@ -94,10 +91,8 @@ impl Suite {
         left: Vec<RunningTest>,
         notes: &mut Vec<Note>,
     ) -> Result<(), RunError>
-        ensures tells { OnOk result (map note_view notes.new.items ≡ map note_view notes.old.items
+        ensures { OnOk result (map note_view notes.new.items ≡ map note_view notes.old.items
             ++ spec.early_notes (others_view others.now) (state_of self) (running_view left.items)) }
-        ensures room { TestCountersFit (spec.early_state (state_of self) (running_view left.items)).stats
-            → self.crashed + length left.items < 2 ^ 64 → OnlyMemory result }
     {
         let crashed = left.len();
         self.crash_left(alloc, others, left, notes)?;
@@ -127,8 +122,6 @@ impl Suite {
         ensures tells { OnOk result (map note_view notes.new.items ≡ map note_view notes.old.items
             ++ spec.crashed_notes (state_of self.old)
             (spec.crash_of (others_view others.now) (state_of self.old) (length left.items)) (running_view left.items)) }
-        ensures room { TestCountersFit (spec.with_failed self.old.stats (running_view left.items))
-            → self.old.crashed + length left.items < 2 ^ 64 → OnlyMemory result }
     {
         if left.is_empty() {
             return Ok(());
@@ -155,8 +148,6 @@ impl Suite {
         ensures tells { OnOk result (map note_view notes.new.items ≡ map note_view notes.old.items
             ++ spec.failed_notes (state_of self.old) (HasCrashed (crash_view crash.now))
             (running_view tests.items)) }
-        ensures room { TestCountersFit (spec.with_failed self.old.stats (running_view tests.items))
-            → self.old.crashed + length tests.items < 2 ^ 64 → OnlyMemory result }
     {
         for test in tests {
             let kind = FailureKind::Crashed(copy_of(alloc, crash)?);
@@ -191,7 +182,6 @@ impl Suite {
         ensures counts { OnOk result (state_of self.new ≡ spec.with_failure (state_of self.old) (running_test_view test)) }
         ensures tells { OnOk result (map note_view notes.new.items ≡ map note_view notes.old.items
             ++ spec.failed_note (state_of self.old) (kind_view kind) (running_test_view test) ∷ []) }
-        ensures room { TestCountersFit (spec.one_failed self.old.stats (running_test_view test)) → OnlyMemory result }
     {
         count(&mut self.stats, Finish::Failed, 1, test.slow)?;
         let failure = Failure {
@@ -235,8 +225,6 @@ impl Suite {
         }) }
         ensures tells { OnOk result (map note_view notes.new.items ≡ map note_view notes.old.items
             ++ spec.flaky_notes (state_of self.old) have_failed) }
-        ensures room { TestCountersFit (spec.with_all_flaky have_failed self.old.stats (state_of self.old).flaky)
-            → OnlyMemory result }
     {
         let flaky_tests = std::mem::replace(&mut self.flaky, FlakyTests::new(alloc));
         for flaky in flaky_tests.tests.into_values() {
@@ -260,7 +248,6 @@ impl Suite {
         }) }
         ensures tells { OnOk result (map note_view notes.new.items ≡ map note_view notes.old.items
             ++ spec.flaky_note (state_of self.old) true (flaky_view flaky) ∷ []) }
-        ensures room { TestCountersFit (spec.one_flaky true self.old.stats (flaky_view flaky)) → OnlyMemory result }
     {
         let (attempts, slow) = (flaky.test.attempts, flaky.test.slow);
         count(&mut self.stats, Finish::FlakyFailed, attempts, slow)?;
@@ -275,7 +262,7 @@ impl Suite {
         Ok(())
     }
 
-    /// Ends the suite after its last line, and adds its notes. `left` are its running tests. Fails only if memory runs
+    /// Ends the suite after its last line, and adds its notes. `left` are its running tests. Fails if memory runs
     /// out, or a number of the suite does not fit.
     pub(crate) fn end(
         mut self,
@@ -283,11 +270,8 @@ impl Suite {
         left: Vec<RunningTest>,
         notes: &mut Vec<Note>,
     ) -> Result<(), RunError>
-        ensures tells { OnOk result (map note_view notes.new.items ≡ map note_view notes.old.items
+        ensures { OnOk result (map note_view notes.new.items ≡ map note_view notes.old.items
             ++ spec.last_notes (state_of self) (running_view left.items)) }
-        ensures room { ExplainedFits (state_of self)
-            → TestCountersFit (spec.last_state (state_of self) (spec.explained_of (state_of self) (length left.items))
-            (running_view left.items)).stats → OnlyMemory result }
     {
         let explained = self.explained(left.len())?;
         let mut skipped = left;
@@ -305,11 +289,10 @@ impl Suite {
         Ok(())
     }
 
-    /// Returns which tests the last line explains. `left` is the number of running tests. Fails only if a number that
+    /// Returns which tests the last line explains. `left` is the number of running tests. Fails if a number that
     /// decides this does not fit.
     fn explained(&self, left: usize) -> Result<Explanation, RunError>
         ensures explains { IfOk result (λ explained. (explained ≡ spec.explained_of (state_of self.now) left) × (explained.skipped ≤ left)) }
-        ensures room { ExplainedFits (state_of self.now) → IsOk result }
     {
         let said = self.said.numbers()?;
         let ignored = self.said.ignored.unwrap_or(0);
@@ -329,8 +312,6 @@ impl Suite {
         ensures tells { OnOk result (map note_view notes.new.items ≡ map note_view notes.old.items
             ++ spec.failed_notes (state_of self.old) HasNoEnd (if have_failed then running_view tests.items else [])) }
         ensures left { IfOk result (λ left. left ≡ (if have_failed then 0 else length tests.items)) }
-        ensures room { TestCountersFit (spec.with_failed self.old.stats (if have_failed then running_view tests.items else []))
-            → OnlyMemory result }
     {
         if have_failed {
             self.fail_all(tests, notes)?;
@@ -347,7 +328,6 @@ impl Suite {
         }) }
         ensures tells { OnOk result (map note_view notes.new.items ≡ map note_view notes.old.items
             ++ spec.failed_notes (state_of self.old) HasNoEnd (running_view tests.items)) }
-        ensures room { TestCountersFit (spec.with_failed self.old.stats (running_view tests.items)) → OnlyMemory result }
     {
         for test in tests {
             self.fail(test, FailureKind::WithoutEnd, notes)?;
@@ -367,12 +347,11 @@ impl Suite {
         Ok(())
     }
 
-    /// Adds a disagreement if the last line contradicts the tests. Fails only if memory runs out, or the number of passed
+    /// Adds a disagreement if the last line contradicts the tests. Fails if memory runs out, or the number of passed
     /// tests that the last lines say does not fit.
     fn push_disagreement(&self, notes: &mut Vec<Note>) -> Result<(), RunError>
         ensures tells { OnOk result (map note_view notes.new.items ≡ map note_view notes.old.items
             ++ spec.last_disagreement (state_of self.now)) }
-        ensures room { FitsWide (numbers_of self.now.said).passed → OnlyMemory result }
     {
         let said = self.said.numbers()?;
         let (passed, failed) = (self.stats.passed, failed_count(&self.stats));

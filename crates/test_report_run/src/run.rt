@@ -1,15 +1,14 @@
 //! A test run that is followed line by line.
 
-ghost use Rattle.std.specs.Prelude.{◌≡◌, ◌++◌, ◌∷◌, [], IfOk, IsOk, OnOk, if◌then◌else◌, map, option_map, option_to_list, string_bytes};
+ghost use Rattle.std.specs.Prelude.{◌≡◌, ◌↔◌, ◌⊎◌, ◌++◌, ◌∷◌, [], IfOk, IsTrue, OnOk, if◌then◌else◌, map, option_map, option_to_list, string_bytes};
+ghost use Rattle.run_events_stats.specs.declared.outcome.run_outcome.RunOutcome.TheVariants as outcomes;
 ghost use Rattle.test_report_events.specs.Content.{events_of};
 ghost use Rattle.test_report_events.specs.Event.{event_view};
-ghost use Rattle.test_report_run_notes.specs.Note.{disagreement_view, is_new_disagreement, note_view, text_view};
+ghost use Rattle.test_report_run_notes.specs.Note.{command_view, disagreement_view, is_new_disagreement, note_view, text_view};
 ghost use Rattle.test_report_run.specs.Events.{is_after_report, is_event};
-ghost use Rattle.test_report_run.specs.Fits.{NotesFit, OnlyMemory};
 ghost use Rattle.test_report_run.specs.FileEnd as ends;
 ghost use Rattle.test_report_run.specs.Run as spec;
 ghost use Rattle.test_report_run.specs.Run.{run_settings, run_state};
-ghost use Rattle.test_report_run.specs.RunFits.{EachFits, EventFits, RunFits, SumsFit, ToldFits};
 
 mod command;
 mod lines;
@@ -24,6 +23,7 @@ use crate::open_suites::OpenSuites;
 use crate::others::Others;
 use crate::run::lines::push_damaged;
 use crate::running::Running;
+use crate::status::exit_status;
 use crate::suite::Suite;
 use crate::suite_names::SuiteNames;
 use crate::totals::Totals;
@@ -37,7 +37,7 @@ use test_report_run_notes::note::{
     CargoReport, CommandEnd, Disagreement, Note, RunEnd, TestOutcome,
 };
 
-/// A test run, up to the line that was passed last.
+/// A test run, up to the line that was passed last. Pass each line to `on_line`, and end the run by `finish`.
 #[derive(Drop)]
 pub struct TestRun {
     /// The tests of the file that start outside of a suite.
@@ -99,6 +99,19 @@ pub struct TestRun {
     file_names: VecDeque<String>,
 }
 
+/// The end of a run.
+#[derive(Debug, Drop)]
+pub struct Finished {
+    /// The notes that the end of the last file makes known.
+    pub notes: Vec<Note>,
+
+    /// The sums and the outcome of the run.
+    pub end: RunEnd,
+
+    /// The exit status for this outcome: 0 or 1.
+    pub status: u8,
+}
+
 impl TestRun {
     /// Returns a run before its first line. A test whose time is at least `slow` microseconds is slow.
     pub fn new(alloc: Global, slow: u64) -> TestRun
@@ -142,15 +155,13 @@ impl TestRun {
     /// Takes the next line: its events, in their order. Returns the notes that each makes known, one after the
     /// other.
     ///
-    /// Fails with `CounterFull` only if a number of the run does not fit its counter after one of these events, or a sum
-    /// of the numbers in the last lines of a suite does not. The only other error is `OutOfMemory`. After an error the run
-    /// must not be used: a part of the line may be counted.
+    /// Fails if a number of the run does not fit its counter (`RunError::CounterFull`). After an error the run must not be
+    /// used: a part of the line may be counted.
     pub fn on_line(&mut self, alloc: Global, line: &Line) -> Result<Vec<Note>, RunError>
         ensures tells { IfOk result (λ notes. map note_view notes.items
             ≡ spec.notes_of (run_state self.old) (events_of line.now)) }
         ensures takes { OnOk result (run_state self.new
             ≡ spec.run_after (run_state self.old) (events_of line.now)) }
-        ensures room { EachFits (run_state self.old) (events_of line.now) → OnlyMemory result }
     {
         let mut notes = Vec::new(alloc);
         self.take(alloc, line.before(), &mut notes)?;
@@ -163,15 +174,13 @@ impl TestRun {
     /// line. The notes of a suite are in this order: its tests without an end, its flaky tests, disagreements,
     /// tests that did not run, and the numbers of the suite.
     ///
-    /// Fails with `CounterFull` only if a number of the run does not fit its counter after the event, or a sum of the
-    /// numbers in the last lines of a suite does not. The only other error is `OutOfMemory`. After an error the run must
-    /// not be used: a part of the event may be counted.
+    /// Fails if a number of the run does not fit its counter. After an error the run must not be used: a part of the event
+    /// may be counted.
     pub fn on_event(&mut self, alloc: Global, event: Event<'_>) -> Result<Vec<Note>, RunError>
         ensures tells { IfOk result (λ notes. map note_view notes.items
             ≡ spec.notes_at (run_state self.old) (event_view event.entry)) }
         ensures takes { OnOk result (run_state self.new
             ≡ spec.after (run_state self.old) (event_view event.entry)) }
-        ensures room { EventFits (run_state self.old) (event_view event.entry) → OnlyMemory result }
     {
         let mut notes = Vec::new(alloc);
         self.settle_at(event, &mut notes)?;
@@ -181,16 +190,16 @@ impl TestRun {
         Ok(notes)
     }
 
-    /// Ends the file, or the output of a command, and returns the notes that this makes known. Suites that are
-    /// still open end early: their running tests crashed.
+    /// Ends the file, and returns the notes that this makes known. Suites that are still open end early: their running
+    /// tests crashed.
     ///
-    /// Fails with `CounterFull` only if a number of the run does not fit its counter after the end of the file. The only
-    /// other error is `OutOfMemory`. After an error the run must not be used.
+    /// Call it for each file but the last one of a run, and `finish` for the last one.
+    ///
+    /// Fails if a number of the run does not fit its counter. After an error the run must not be used.
     pub fn end_file(&mut self, alloc: Global) -> Result<Vec<Note>, RunError>
         ensures tells { IfOk result (λ notes. map note_view notes.items
             ≡ ends.file_notes (run_state self.old)) }
         ensures takes { OnOk result (run_state self.new ≡ ends.after_file (run_state self.old)) }
-        ensures room { RunFits (ends.after_file (run_state self.old)) → OnlyMemory result }
     {
         let mut notes = Vec::new(alloc);
         self.settle(false, &mut notes)?;
@@ -203,13 +212,12 @@ impl TestRun {
         Ok(notes)
     }
 
-    /// Ends the open suites early, and then the tests outside of a suite. Fails only if memory runs out, or a number of a
+    /// Ends the open suites early, and then the tests outside of a suite. Fails if memory runs out, or a number of a
     /// suite does not fit.
     fn end_suites(&mut self, alloc: Global, notes: &mut Vec<Note>) -> Result<(), RunError>
         ensures takes { OnOk result (run_state self.new ≡ (ends.all_ended_early (run_state self.old)).run) }
         ensures tells { OnOk result (map note_view notes.new.items ≡ map note_view notes.old.items
             ++ (ends.all_ended_early (run_state self.old)).notes) }
-        ensures room { NotesFit (ends.all_ended_early (run_state self.old)).notes → OnlyMemory result }
     {
         for suite in self.suites.take_all(alloc) {
             self.end_early(alloc, Box::into_inner(suite), notes)?;
@@ -236,7 +244,36 @@ impl TestRun {
         self.file_names.pop_front();
     }
 
-    /// Returns the sums and the outcome of the whole run. Call it after `end_file` of the last file.
+    /// Ends the last file of the run. Returns the notes that this makes known, the sums and the outcome of the whole run,
+    /// and its exit status. If the lines of the file are the output of a command, `command` is how it ended. If
+    /// `no_tests_pass` is true, the status of a run without tests is 0.
+    ///
+    /// Do not call `end_file` for the last file: `finish` would then end one more file, which has no event.
+    ///
+    /// Fails if a number of the run does not fit its counter. After an error the run must not be used.
+    pub fn finish(
+        &mut self,
+        alloc: Global,
+        command: Option<CommandEnd>,
+        no_tests_pass: bool,
+    ) -> Result<Finished, RunError>
+        ensures tells { IfOk result (λ finished. map note_view finished.notes.items
+            ≡ ends.file_notes (ends.with_command (run_state self.old) (option_map command_view command))) }
+        ensures takes { OnOk result (run_state self.new
+            ≡ ends.after_file (ends.with_command (run_state self.old) (option_map command_view command))) }
+        ensures sums { IfOk result (λ finished. finished.end ≡ ends.end_of (run_state self.new)) }
+        ensures zero { IfOk result (λ finished. (finished.status ≡ 0) ↔ ((finished.end.outcome ≡ outcomes.Success)
+            ⊎ ((finished.end.outcome ≡ outcomes.NoTestsRun) × IsTrue no_tests_pass))) }
+        ensures one { IfOk result (λ finished. (finished.status ≡ 0) ⊎ (finished.status ≡ 1)) }
+    {
+        self.on_command_ended(command);
+        let notes = self.end_file(alloc)?;
+        let end = self.end();
+        let status = exit_status(end.outcome, no_tests_pass);
+        Ok(Finished { notes, end, status })
+    }
+
+    /// Returns the sums and the outcome of the run, up to the last file that has ended.
     pub fn end(&self) -> RunEnd
         ensures { result ≡ ends.end_of (run_state self.now) }
     {
@@ -254,8 +291,6 @@ impl TestRun {
             ++ spec.notes_of (run_state self.old) (option_to_list (option_map event_view event.entry))) }
         ensures takes { OnOk result (run_state self.new
             ≡ spec.run_after (run_state self.old) (option_to_list (option_map event_view event.entry))) }
-        ensures room { EachFits (run_state self.old) (option_to_list (option_map event_view event.entry))
-            → OnlyMemory result }
     {
         if let Some(event) = event {
             notes.append(&mut self.on_event(alloc, event)?)?;
@@ -276,7 +311,7 @@ impl TestRun {
         Ok(())
     }
 
-    /// Takes an event, except that its notes are not added to the sums. Fails only if memory runs out, or a number of the
+    /// Takes an event, except that its notes are not added to the sums. Fails if memory runs out, or a number of the
     /// run does not fit.
     fn tell(
         &mut self,
@@ -288,7 +323,6 @@ impl TestRun {
             ≡ (spec.told (run_state self.old) (event_view event.entry)).run) }
         ensures tells { OnOk result (map note_view notes.new.items ≡ map note_view notes.old.items
             ++ (spec.told (run_state self.old) (event_view event.entry)).notes) }
-        ensures room { ToldFits (run_state self.old) (event_view event.entry) → OnlyMemory result }
     {
         match event {
             Event::SuiteStarted { key, test_count } => {
@@ -366,11 +400,10 @@ impl TestRun {
         }
     }
 
-    /// Adds notes to the sums. Fails only if a sum does not fit.
+    /// Adds notes to the sums. Fails if a sum does not fit.
     fn learn(&mut self, notes: &[Note]) -> Result<(), RunError>
         ensures learns { OnOk result (run_state self.new
             ≡ spec.learned (run_state self.old) (map note_view notes.now)) }
-        ensures room { SumsFit (spec.learned (run_state self.old) (map note_view notes.now)) → IsOk result }
     {
         for note in notes {
             self.learn_note(note)?;
@@ -378,11 +411,10 @@ impl TestRun {
         Ok(())
     }
 
-    /// Adds a note to the sums. Fails only if a sum does not fit.
+    /// Adds a note to the sums. Fails if a sum does not fit.
     pub(crate) fn learn_note(&mut self, note: &Note) -> Result<(), RunError>
         ensures learns { OnOk result (run_state self.new
             ≡ spec.learned (run_state self.old) (note_view note.now ∷ [])) }
-        ensures room { SumsFit (spec.learned (run_state self.old) (note_view note.now ∷ [])) → IsOk result }
     {
         match note {
             Note::Test(test) => {

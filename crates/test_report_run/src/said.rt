@@ -1,19 +1,17 @@
 //! The numbers in the last lines of a suite.
 
-ghost use Rattle.std.specs.Prelude.{◌≡◌, ◌↔◌, IfOk, IsOk};
+ghost use Rattle.std.specs.Prelude.{◌≡◌, IfOk};
 ghost use Rattle.test_report_events.specs.Event.{suite_end_view};
-ghost use Rattle.test_report_run.specs.Fits.{FitsWide, SaidFits};
 ghost use Rattle.test_report_run.specs.Said.{numbers_of, sum_of, time_sum_of, with_said};
 
 use crate::error::RunError;
 use test_report_events::event::SuiteEnd;
 use test_report_run_notes::note::SaidNumbers;
 
-/// Adds two numbers that may be absent. The sum is absent only if both are. Fails only if the sum does not
+/// Adds two numbers that may be absent. The sum is absent only if both are. Fails if the sum does not
 /// fit.
 pub(crate) fn sum(a: Option<u128>, b: Option<u128>) -> Result<Option<u128>, RunError>
     ensures sum { IfOk result (λ sum. sum ≡ sum_of a b) }
-    ensures fits { IsOk result ↔ FitsWide (sum_of a b) }
 {
     match (a, b) {
         (Some(a), Some(b)) => Ok(Some(a.checked_add(b).ok_or(RunError::CounterFull)?)),
@@ -22,10 +20,9 @@ pub(crate) fn sum(a: Option<u128>, b: Option<u128>) -> Result<Option<u128>, RunE
     }
 }
 
-/// Adds a number of a line. The sum is absent only if both numbers are. Fails only if the sum does not fit.
+/// Adds a number of a line. The sum is absent only if both numbers are. Fails if the sum does not fit.
 fn with_number(a: Option<u128>, b: Option<u64>) -> Result<Option<u128>, RunError>
     ensures sum { IfOk result (λ sum. sum ≡ sum_of a b) }
-    ensures fits { IsOk result ↔ FitsWide (sum_of a b) }
 {
     match b {
         Some(b) => sum(a, Some(u128::from(b))),
@@ -57,10 +54,9 @@ pub(crate) struct Said {
 }
 
 impl Said {
-    /// Adds the numbers and the verdict of one more line. Fails only if a sum does not fit.
+    /// Adds the numbers and the verdict of one more line. Fails if a sum does not fit.
     pub(crate) fn with_line(self, end: SuiteEnd<'_>) -> Result<Said, RunError>
         ensures said { IfOk result (λ said. said ≡ with_said self (suite_end_view end.entry)) }
-        ensures fits { IsOk result ↔ SaidFits (with_said self (suite_end_view end.entry)) }
     {
         Ok(Said {
             failed_verdict: self.failed_verdict || end.failed_verdict,
@@ -73,10 +69,9 @@ impl Said {
     }
 
     /// Returns the verdict, and how many tests passed and failed. Measured benchmarks count as passed. Fails
-    /// only if the number of passed tests does not fit.
+    /// if the number of passed tests does not fit.
     pub(crate) fn numbers(self) -> Result<SaidNumbers, RunError>
         ensures numbers { IfOk result (λ said. said ≡ numbers_of self) }
-        ensures fits { IsOk result ↔ FitsWide (numbers_of self).passed }
     {
         let passed = match self.passed {
             Some(passed) => sum(Some(passed), self.measured)?,

@@ -1,9 +1,8 @@
 //! An open suite of a run.
 
-ghost use Rattle.std.specs.Prelude.{◌≡◌, ◌==◌, ◌+◌, ◌<◌, ◌^◌, ◌↔◌, IfOk, IsOk, OnOk, option_map, string_bytes};
+ghost use Rattle.std.specs.Prelude.{◌≡◌, ◌==◌, ◌<◌, IfOk, OnOk, option_map, string_bytes};
 ghost use Rattle.test_report_events.specs.Event.{suite_end_view};
 ghost use Rattle.test_report_run_notes.specs.Note.{note_view, outcome_view, test_view, text_view};
-ghost use Rattle.test_report_run.specs.Fits.{FitsWide, OnlyMemory, SaidFits};
 ghost use Rattle.test_report_run.specs.Others.{no_others, others_view};
 ghost use Rattle.test_report_run.specs.Suite.{has_key, joined_by, named, outside_start, over_view, state_of, suite_name, suite_start, tally_of, test_note, test_of, with_line, with_start};
 
@@ -183,12 +182,10 @@ impl Suite {
         }
     }
 
-    /// Takes another first line of the suite. Fails only if the number of these lines, or of the tests that they
+    /// Takes another first line of the suite. Fails if the number of these lines, or of the tests that they
     /// announce, does not fit.
     pub(crate) fn join(&mut self, test_count: Option<u128>) -> Result<(), RunError>
         ensures takes { OnOk result (state_of self.new ≡ joined_by (state_of self.old) test_count) }
-        ensures fits { IsOk result ↔ ((self.old.open_lines + 1 < 2 ^ 64)
-            × FitsWide (joined_by (state_of self.old) test_count).test_count) }
         ensures number { self.new.name.number ≡ self.old.name.number }
         ensures key { text_view self.new.name.key ≡ text_view self.old.name.key }
     {
@@ -203,7 +200,6 @@ impl Suite {
         ensures takes { OnOk result (state_of self.new
             ≡ with_line (state_of self.old) (suite_end_view end.entry)) }
         ensures last { IfOk result (λ last. last ≡ (self.new.open_lines == 0)) }
-        ensures fits { IsOk result ↔ SaidFits (with_line (state_of self.old) (suite_end_view end.entry)).said }
         ensures number { self.new.name.number ≡ self.old.name.number }
         ensures key { text_view self.new.name.key ≡ text_view self.old.name.key }
     {
@@ -221,10 +217,9 @@ impl Suite {
         self.name.take_test(alloc, name)
     }
 
-    /// Takes the start of a test. Fails only if memory runs out, or the number of tests that started does not fit.
+    /// Takes the start of a test. Fails if memory runs out, or the number of tests that started does not fit.
     pub(crate) fn on_start(&mut self, alloc: Global, name: &str) -> Result<(), RunError>
         ensures takes { OnOk result (state_of self.new ≡ with_start (state_of self.old) name.now) }
-        ensures room { self.old.started + 1 < 2 ^ 64 → OnlyMemory result }
         ensures number { self.new.name.number ≡ self.old.name.number }
         ensures key { text_view self.new.name.key ≡ text_view self.old.name.key }
     {
@@ -287,11 +282,10 @@ impl Suite {
         })
     }
 
-    /// Returns the numbers of tests of the suite. `left` is the number of running tests. Fails only if the number
+    /// Returns the numbers of tests of the suite. `left` is the number of running tests. Fails if the number
     /// of passed tests does not fit.
     pub(crate) fn tally(&self, left: usize) -> Result<Tally, RunError>
         ensures tally { IfOk result (λ tally. tally ≡ tally_of (state_of self.now) left) }
-        ensures fits { IsOk result ↔ ((tally_of (state_of self.now) left).passed < 2 ^ 64) }
     {
         let flaky = self.flaky.len();
         let passed = self

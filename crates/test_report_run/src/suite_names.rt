@@ -28,8 +28,7 @@ impl SuiteNames {
         }
     }
 
-    /// Adds the name of the suites of the binary with this path. It replaces the name that the path had. The only error
-    /// is that memory runs out.
+    /// Adds the name of the suites of the binary with this path. It replaces the name that the path had.
     pub fn insert(&mut self, path: String, name: String) -> Result<(), AllocError>
         ensures { OnOk result (names_of self.new
             ≡ insert_entry (slice_cmp nat_cmp) (names_of self.old) (string_bytes path) (string_bytes name)) }

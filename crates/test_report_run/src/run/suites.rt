@@ -1,14 +1,12 @@
 //! The first and the last lines of suites.
 
-ghost use Rattle.std.specs.Prelude.{◌≡◌, ◌++◌, ◌+◌, ◌<◌, ◌^◌, ◌==◌, ◌↔◌, [], Some, IfOk, IsOk, OnOk, length, map, option_map};
-ghost use Rattle.std.specs.List.{position, remove};
-ghost use Rattle.test_report_events.specs.Event.{SuiteEnds, suite_end_view, text_of_key};
+ghost use Rattle.std.specs.Prelude.{◌≡◌, ◌++◌, ◌+◌, ◌<◌, ◌==◌, Some, IfOk, OnOk, length, map, option_map};
+ghost use Rattle.std.specs.List.{remove};
+ghost use Rattle.test_report_events.specs.Event.{suite_end_view, text_of_key};
 ghost use Rattle.test_report_run_notes.specs.Note.{note_view, text_view};
-ghost use Rattle.test_report_run.specs.Fits.{ExplainedFits, NotesFit, OnlyMemory, SaidFits};
 ghost use Rattle.test_report_run.specs.Over.{last_notes};
 ghost use Rattle.test_report_run.specs.Run as spec;
 ghost use Rattle.test_report_run.specs.Run.{run_state};
-ghost use Rattle.test_report_run.specs.RunFits.{LastLineFits, LineFits, SuitesFit};
 ghost use Rattle.test_report_run.specs.Suite.{cancelled_by, has_key, joined_by, state_of, with_line};
 
 use crate::error::{RunError, one_more};
@@ -31,10 +29,6 @@ impl TestRun {
             ≡ (spec.suite_starts (run_state self.old) (option_map text_of_key key.entry) test_count).run) }
         ensures tells { OnOk result (map note_view notes.new.items ≡ map note_view notes.old.items
             ++ (spec.suite_starts (run_state self.old) (option_map text_of_key key.entry) test_count).notes) }
-        ensures room { SuitesFit (spec.suite_starts (run_state self.old) (option_map text_of_key key.entry) test_count).run
-            → NotesFit (spec.suite_starts (run_state self.old) (option_map text_of_key key.entry) test_count).notes
-            → (spec.suite_starts (run_state self.old) (option_map text_of_key key.entry) test_count).run.suites_started < 2 ^ 64
-            → OnlyMemory result }
     {
         let key = key_text(alloc, key)?;
         let test_count = test_count.map(u128::from);
@@ -61,10 +55,6 @@ impl TestRun {
             ≡ (spec.started_again (run_state self.old) (text_view key) test_count at).run) }
         ensures tells { OnOk result (map note_view notes.new.items ≡ map note_view notes.old.items
             ++ (spec.started_again (run_state self.old) (text_view key) test_count at).notes) }
-        ensures room { SuitesFit (spec.started_again (run_state self.old) (text_view key) test_count at).run
-            → NotesFit (spec.started_again (run_state self.old) (text_view key) test_count at).notes
-            → (spec.started_again (run_state self.old) (text_view key) test_count at).run.suites_started < 2 ^ 64
-            → OnlyMemory result }
     {
         if key.is_some() {
             self.join(test_count, at)
@@ -78,10 +68,8 @@ impl TestRun {
     /// Adds a first line to the open suite at a position.
     fn join(&mut self, test_count: Option<u128>, at: usize) -> Result<(), RunError>
         requires { at < length self.old.suites.list.items }
-        ensures takes { OnOk result (run_state self.new ≡ spec.with_suite_at (run_state self.old) (Some at)
+        ensures { OnOk result (run_state self.new ≡ spec.with_suite_at (run_state self.old) (Some at)
             (joined_by (spec.suite_at (run_state self.old) (Some at)) test_count)) }
-        ensures room { SuitesFit (spec.with_suite_at (run_state self.old) (Some at)
-            (joined_by (spec.suite_at (run_state self.old) (Some at)) test_count)) → IsOk result }
     {
         let place = self.others.event_place();
         let suite = &mut self.suites.list[at];
@@ -111,7 +99,6 @@ impl TestRun {
         requires { spec.open_suite (run_state self.old) (text_view key) ≡ None }
         ensures takes { OnOk result (run_state self.new
             ≡ spec.opened (run_state self.old) (text_view key) test_count) }
-        ensures room { (run_state self.old).suites_started + 1 < 2 ^ 64 → OnlyMemory result }
     {
         let heading = match &self.heading {
             Some(heading) => Some(heading.clone()?),
@@ -132,8 +119,6 @@ impl TestRun {
             ≡ (spec.suite_ends (run_state self.old) (suite_end_view end.entry)).run) }
         ensures tells { OnOk result (map note_view notes.new.items ≡ map note_view notes.old.items
             ++ (spec.suite_ends (run_state self.old) (suite_end_view end.entry)).notes) }
-        ensures room { LineFits (run_state self.old) (SuiteEnds (suite_end_view end.entry))
-            → NotesFit (spec.suite_ends (run_state self.old) (suite_end_view end.entry)).notes → OnlyMemory result }
     {
         let key = key_text(alloc, end.key)?;
         match self.open_suite(key.as_deref()) {
@@ -150,7 +135,7 @@ impl TestRun {
         }
     }
 
-    /// Takes a last line of the open suite at a position. Fails only if memory runs out, or a number of the suite does not
+    /// Takes a last line of the open suite at a position. Fails if memory runs out, or a number of the suite does not
     /// fit.
     fn end_at(
         &mut self,
@@ -164,8 +149,6 @@ impl TestRun {
             ≡ (spec.ended_at (run_state self.old) (suite_end_view end.entry) at).run) }
         ensures tells { OnOk result (map note_view notes.new.items ≡ map note_view notes.old.items
             ++ (spec.ended_at (run_state self.old) (suite_end_view end.entry) at).notes) }
-        ensures room { LastLineFits (with_line (spec.suite_at (run_state self.old) (Some at)) (suite_end_view end.entry))
-            → NotesFit (spec.ended_at (run_state self.old) (suite_end_view end.entry) at).notes → OnlyMemory result }
     {
         if self.add_last_line(end, at)? {
             let suite = self.take_out(at);
@@ -182,8 +165,6 @@ impl TestRun {
             (with_line (spec.suite_at (run_state self.old) (Some at)) (suite_end_view end.entry))) }
         ensures is_over { IfOk result (λ is_over. is_over
             ≡ ((with_line (spec.suite_at (run_state self.old) (Some at)) (suite_end_view end.entry)).open_lines == 0)) }
-        ensures fits { IsOk result
-            ↔ SaidFits (with_line (spec.suite_at (run_state self.old) (Some at)) (suite_end_view end.entry)).said }
     {
         let place = self.others.event_place();
         let suite = &mut self.suites.list[at];
@@ -204,9 +185,6 @@ impl TestRun {
         ensures tells { OnOk result (map note_view notes.new.items ≡ map note_view notes.old.items
             ++ last_notes (cancelled_by self.old.cancel (state_of suite))
             (spec.tests_in (run_state self.old) (state_of suite))) }
-        ensures room { ExplainedFits (state_of suite)
-            → NotesFit (last_notes (cancelled_by self.old.cancel (state_of suite))
-            (spec.tests_in (run_state self.old) (state_of suite))) → OnlyMemory result }
     {
         let left = self.running.take_suite(alloc, suite.name.number)?;
         suite.cancel = self.cancel;
@@ -220,10 +198,8 @@ impl TestRun {
         mut suite: Suite,
         notes: &mut Vec<Note>,
     ) -> Result<(), RunError>
-        ensures takes { OnOk result (spec.step (run_state self.new) (map note_view notes.new.items)
+        ensures { OnOk result (spec.step (run_state self.new) (map note_view notes.new.items)
             ≡ spec.ended_early (spec.step (run_state self.old) (map note_view notes.old.items)) (state_of suite)) }
-        ensures room { NotesFit (spec.ended_early (spec.step (run_state self.old) []) (state_of suite)).notes
-            → OnlyMemory result }
     {
         let left = self.running.take_suite(alloc, suite.name.number)?;
         suite.cancel = self.cancel;

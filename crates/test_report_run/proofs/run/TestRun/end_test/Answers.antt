@@ -1,10 +1,9 @@
 -- A test that runs is taken out, and counts in its suite.
-use Rattle.std.proofs.Common.{◌++◌, ap, map, subst, sym}
+use Rattle.std.proofs.Common.{◌++◌, ap, map, sym}
 use Rattle.std.proofs.lemmas.Result.{IfOk-equal}
 use Rattle.test_report_events.specs.Event.{test_end_view}
 use Rattle.test_report_run_notes.specs.Note.{note_view}
 use Rattle.test_report_run.specs.Run.{RunState, Step, run_state}
-use Rattle.test_report_run.specs.RunFits.{SuitesFit}
 use Rattle.test_report_run.specs.Running.{place_of_end, running_test_view, tests_of}
 use Rattle.test_report_run.proofs.Runs.{none-over, running-over}
 use Rattle.test_report_run.proofs.run.TestRun.end_test.Goals as goal
@@ -34,20 +33,3 @@ returns-in-None-clause-takes c =
     let taken : RunState = record r { running = tests_of c.end.new.self; tests_started = c.end.new.self.started } in
     let over = none-over r taken e (place_of_end r.running e.name) c.in-None.ensures.found (rw (c.in-None.ensures.left, c.in-None.ensures.started)) in
     IfOk-equal c.on_stray_end.result _ _ _ c.on_stray_end.ensures.takes (ap (λ (t : Step). t.run) (sym over))
-
-pub returns-in-Some-clause-room : goal.returns-in-Some-clause-room
-returns-in-Some-clause-room c = λ fits.
-    let r = run_state c.args.self.now in
-    let e = test_end_view c.args.name.now c.args.end c.args.details in
-    let taken : RunState = record r { running = tests_of c.end.new.self; tests_started = c.end.new.self.started } in
-    let over = running-over r taken e (place_of_end r.running e.name) (running_test_view c.in-Some.test, c.in-Some.attempts) c.in-Some.ensures.found
-    (rw (c.in-Some.ensures.left, c.in-Some.ensures.started)) in
-    c.count_end.ensures.room (subst (λ (t : Step). SuitesFit t.run) over fits)
-
-pub returns-in-None-clause-room : goal.returns-in-None-clause-room
-returns-in-None-clause-room c = λ fits.
-    let r = run_state c.args.self.now in
-    let e = test_end_view c.args.name.now c.args.end c.args.details in
-    let taken : RunState = record r { running = tests_of c.end.new.self; tests_started = c.end.new.self.started } in
-    let over = none-over r taken e (place_of_end r.running e.name) c.in-None.ensures.found (rw (c.in-None.ensures.left, c.in-None.ensures.started)) in
-    c.on_stray_end.ensures.room (subst (λ (t : Step). SuitesFit t.run) over fits)

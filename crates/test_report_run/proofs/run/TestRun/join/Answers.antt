@@ -1,12 +1,11 @@
 -- A suite of the run changes.
-use Rattle.std.proofs.Common.{◌<◌, ◌∙◌, Some, ap, arith, length, refl, sym, true≢false}
+use Rattle.std.proofs.Common.{◌<◌, ◌∙◌, Some, ap, arith, length, refl}
 use Rattle.std.proofs.lemmas.Grind.{common_steps}
 use Rattle.test_report_run_notes.specs.Note.{text_view}
 use Rattle.test_report_run.specs.Run.{run_state}
 use Rattle.test_report_run.specs.Suite.{joined_by, state_of}
 use Rattle.test_report_run.specs.declared.suite.Suite.{Suite}
 use Rattle.test_report_run.proofs.OpenSteps.{key-kept, number-kept}
-use Rattle.test_report_run.proofs.RunFits.{fits-at}
 use Rattle.test_report_run.proofs.Runs.{with_suite-at}
 use Rattle.test_report_run.proofs.run.TestRun.join.Goals as goal
 
@@ -41,17 +40,10 @@ invariant_of-self-2 c =
           c.index_mut-suite.ensures.value c.deref_mut.ensures.value (ap (λ (s : Suite). text_view s.name.key) last ∙ kept.key)) o.keyed;
     }
 
-pub returns-clause-takes : goal.returns-clause-takes
-returns-clause-takes c =
+pub returns : goal.returns
+returns c =
     let inside : c.args.at < length c.args.self.now.suites.list.items = grind (arith, common_steps) in
     with_suite-at (run_state c.args.self.now) _ c.args.self.now.suites.list.items c.args.at (Some c.args.at) c.index_mut-suite.result.now
     c.deref_mut.result.now c.deref_mut-2.result.now c.event_place-place.result
     (λ s. joined_by s c.args.test_count) refl refl inside refl c.index_mut-suite.ensures.value c.deref_mut.ensures.value
     (ap state_of c.deref_mut-2.ensures.value ∙ c.in_ok-join.ensures.takes) c.event_place-place.ensures
-
-pub returns-in_err-join-clause-room : goal.returns-in_err-join-clause-room
-returns-in_err-join-clause-room c = λ fits.
-    let inside : c.args.at < length c.args.self.now.suites.list.items = grind (arith, common_steps) in
-    let suite = fits-at (run_state c.args.self.now) c.args.self.now.suites.list.items c.args.at (Some c.args.at) c.index_mut-suite.result.now
-    c.deref_mut.result.now (λ s. joined_by s c.args.test_count) refl inside refl c.index_mut-suite.ensures.value c.deref_mut.ensures.value fits in
-    absurd (true≢false (sym (c.in_err-join.ensures.fits.1 (suite.open_lines, suite.test_count))))

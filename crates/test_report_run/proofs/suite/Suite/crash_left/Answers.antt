@@ -1,13 +1,9 @@
 -- The tests that crash: the first one, and those after it.
-use Rattle.std.proofs.Common.{◌<◌, ap, arith, length, refl}
+use Rattle.std.proofs.Common.{◌<◌, arith, length, refl}
 use Rattle.std.proofs.lemmas.Bool.Decides.{nat_tests}
-use Rattle.std.proofs.lemmas.List.{length-take}
 use Rattle.std.proofs.lemmas.Result.{on_ok_weaker}
 use Rattle.test_report_run.proofs.Crashes.{crash-notes, crash-state}
-use Rattle.test_report_run.proofs.Fits.{failed-raises, fits-front, passed-on}
 use Rattle.test_report_run.specs.Others.{others_view}
-use Rattle.test_report_run.specs.Over.{one_failed}
-use Rattle.test_report_run.specs.Running.{running_test_view}
 use Rattle.test_report_run.specs.Suite.{state_of}
 use Rattle.test_report_run.proofs.suite.Suite.crash_left.Goals as goal
 
@@ -29,11 +25,3 @@ returns-clause-counts c =
     (crash-state (state_of c.args.self.now) (state_of c.crash_all.new.self) (state_of c.crash_all-2.new.self) c.args.left.items _ _ some
     c.in_ok-later.ensures.items c.in_ok-later.ensures.tail first.counts)
     c.crash_all-2.ensures.counts
-
-pub returns-in_err-crash_all-clause-room : goal.returns-in_err-crash_all-clause-room
-returns-in_err-crash_all-clause-room c = λ fits crashed.
-    let left = c.args.left.items in
-    let first = c.in_ok-later.ensures.items in
-    passed-on c.from_residual-in_err-crash_all.result _ c.from_residual-in_err-crash_all.ensures.1
-    (c.in_err-crash_all.ensures.room (fits-front running_test_view one_failed failed-raises c.args.self.now.stats 1 _ left first fits)
-    (omega (arith, crashed, ap length first, length-take 1 left)))
