@@ -1,0 +1,109 @@
+// Made by tools/erase from crates/test_report_run/src/ended.rt. Do not edit.
+//! The ends of the tests of a suite.
+
+use crate::events::event::{TestDetails, TestResult};
+use crate::notes::finish::Finish;
+use crate::notes::note::{Failure, FailureKind, Note, TestOutcome};
+use crate::run::counted::count;
+use crate::run::error::{RunError, one_more};
+use crate::run::said::time_sum;
+use crate::run::suite::{FlakyTest, OverTest, Suite};
+
+/// The reason of the harness for a test that ran out of time.
+const TIME_LIMIT: &str = "time limit exceeded";
+
+/// Copies a text that may be absent.
+fn owned(text: Option<&str>) -> Option<String> {
+    text.map(String::from)
+}
+
+/// Returns the failure of a test, from the line that says that it failed.
+fn failure_of(details: TestDetails<'_>) -> Failure {
+    Failure {
+        kind: match details.reason {
+            Some(TIME_LIMIT) => FailureKind::TimedOut,
+            _ => FailureKind::Failed,
+        },
+        stdout: owned(details.stdout),
+        message: owned(details.message),
+        reason: owned(details.reason),
+    }
+}
+
+impl Suite {
+    /// Takes the end of a test, and adds its note. `order` is the number of tests that started before it. A
+    /// test that passed after several attempts is kept, and has another note when its suite is over. Fails if
+    /// memory runs out, or a number of the suite does not fit.
+    pub(crate) fn on_end(
+        &mut self,
+        test: OverTest,
+        order: usize,
+        end: TestResult,
+        details: TestDetails<'_>,
+        notes: &mut Vec<Note>,
+    ) -> Result<(), RunError> {
+        if end == TestResult::Ignored {
+            self.skipped = one_more(self.skipped)?;
+            let reason = owned(details.message);
+            notes.push(self.note(test, TestOutcome::Skipped { reason }));
+            return Ok(());
+        }
+        self.time = time_sum(self.time, details.time);
+        if end == TestResult::Failed {
+            return self.on_failed(test, details, notes);
+        }
+        let output = owned(details.stdout);
+        let outcome = TestOutcome::Passed { output };
+        if test.attempts > 1 {
+            notes.push(Note::Flaky(self.test_note(test.duplicate(), outcome)));
+            self.on_flaky(test, order, details);
+            return Ok(());
+        }
+        count(&mut self.stats, Finish::Passed, 1, test.slow)?;
+        notes.push(self.note(test, outcome));
+        Ok(())
+    }
+
+    /// Takes the end of a test that was not running. Fails if memory runs out, or a number of the suite does not
+    /// fit.
+    pub(crate) fn on_stray_end(
+        &mut self,
+        test: OverTest,
+        end: TestResult,
+        details: TestDetails<'_>,
+        notes: &mut Vec<Note>,
+    ) -> Result<(), RunError> {
+        self.on_name(test.name.as_str());
+        self.on_end(test, 0, end, details, notes)
+    }
+
+    /// Takes the end of a test that failed.
+    fn on_failed(
+        &mut self,
+        test: OverTest,
+        details: TestDetails<'_>,
+        notes: &mut Vec<Note>,
+    ) -> Result<(), RunError> {
+        let failure = failure_of(details);
+        count(
+            &mut self.stats,
+            Finish::of_failure(&failure.kind),
+            test.attempts,
+            test.slow,
+        )?;
+        notes.push(self.note(test, TestOutcome::Failed(failure)));
+        Ok(())
+    }
+
+    /// Keeps a test that passed after several attempts until the suite is over. Such tests are kept in the
+    /// order in which they started.
+    fn on_flaky(&mut self, test: OverTest, order: usize, details: TestDetails<'_>) {
+        let flaky = FlakyTest {
+            test,
+            order,
+            stdout: owned(details.stdout),
+            message: owned(details.message),
+        };
+        self.flaky.insert(flaky);
+    }
+}

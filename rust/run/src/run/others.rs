@@ -1,0 +1,219 @@
+// Made by tools/erase from crates/test_report_run/src/others.rt. Do not edit.
+//! The lines of a file that are no events of a harness.
+
+use crate::run::cuts::shortened;
+use crate::run::error::{RunError, one_more};
+use crate::run::prints::Prints;
+
+/// The line before the one in which cargo names the cause of its failure.
+const CAUSED_BY: &[u8] = b"Caused by:";
+
+/// The place of a print of a file.
+#[derive(Clone, Copy, Debug, Default, PartialEq, Eq)]
+pub(crate) struct PrintPlace {
+    /// The number of headings and failures that came before it.
+    part: usize,
+
+    /// The number of prints between the last of these and it.
+    print: usize,
+}
+
+/// The place of an event of a file among its other lines.
+#[derive(Clone, Copy, Debug, Default, PartialEq, Eq)]
+pub(crate) struct EventPlace {
+    /// The number of failures of cargo that came before it.
+    failures: usize,
+
+    /// The number of headings that came before it.
+    headings: usize,
+}
+
+/// A failure that cargo reported.
+#[derive(Clone)]
+pub(crate) struct Reported {
+    /// The number of headings that came before it.
+    headings: usize,
+
+    /// The line in which cargo names the cause, or its first 200 bytes. It follows the first `Caused by:` after the failure.
+    cause: Option<String>,
+
+    /// The same of the plain text of this line.
+    plain_cause: Option<String>,
+}
+
+/// How far the search for the cause of the last failure is.
+#[derive(Clone, Copy, Debug, PartialEq, Eq)]
+enum Stage {
+    /// There is nothing to search for: no failure came, the cause is known, or a heading came after the failure.
+    Over,
+
+    /// After the failure, before the line `Caused by:`.
+    Failed,
+
+    /// Right after the line `Caused by:`.
+    CausedBy,
+}
+
+/// What is kept of the lines of a file that are no events of a harness.
+#[derive(Clone)]
+pub(crate) struct Others {
+    /// The prints before the first heading or failure of cargo, and between two of them.
+    past: Vec<Prints>,
+
+    /// The prints after the last heading or failure.
+    prints: Prints,
+
+    headings: usize,
+
+    /// The failures before the last one.
+    failures: Vec<Reported>,
+
+    last_failure: Option<Reported>,
+    stage: Stage,
+}
+
+impl Others {
+    /// Returns what is kept before the first line.
+    pub(crate) fn new() -> Others {
+        Others {
+            past: Vec::new(),
+            prints: Prints::new(),
+            headings: 0,
+            failures: Vec::new(),
+            last_failure: None,
+            stage: Stage::Over,
+        }
+    }
+
+    /// Takes a print. Fails if memory runs out, or the number of prints does not fit.
+    pub(crate) fn on_print(&mut self, line: &str, plain: &str) -> Result<(), RunError> {
+        self.prints.take_print(line)?;
+        if self.stage == Stage::CausedBy {
+            self.keep_cause(line, plain);
+        }
+        self.stage = stage_after(self.stage, plain);
+        Ok(())
+    }
+
+    /// Keeps the cause of the last failure.
+    fn keep_cause(&mut self, line: &str, plain: &str) {
+        if let Some(failure) = &mut self.last_failure {
+            failure.cause = Some(String::from(shortened(line)));
+            failure.plain_cause = Some(String::from(shortened(plain)));
+        }
+    }
+
+    /// Takes a heading. Fails if memory runs out, or the number of headings does not fit.
+    pub(crate) fn on_heading(&mut self) -> Result<(), RunError> {
+        self.end_part();
+        self.headings = one_more(self.headings)?;
+        self.stage = Stage::Over;
+        Ok(())
+    }
+
+    /// Takes a failure of cargo.
+    pub(crate) fn on_failure(&mut self) {
+        self.end_part();
+        let failure = Reported {
+            headings: self.headings,
+            cause: None,
+            plain_cause: None,
+        };
+        if let Some(before) = std::mem::replace(&mut self.last_failure, Some(failure)) {
+            self.failures.push(before);
+        }
+        self.stage = Stage::Failed;
+    }
+
+    /// Ends the prints after the last heading or failure.
+    fn end_part(&mut self) {
+        let prints = std::mem::replace(&mut self.prints, Prints::new());
+        self.past.push(prints);
+    }
+
+    /// Returns the place of the next print.
+    pub(crate) fn print_place(&self) -> PrintPlace {
+        PrintPlace {
+            part: self.past.len(),
+            print: self.prints.count(),
+        }
+    }
+
+    /// Returns the place of an event.
+    pub(crate) fn event_place(&self) -> EventPlace {
+        let failures = match &self.last_failure {
+            Some(_) => self.failures.len() + 1,
+            None => self.failures.len(),
+        };
+        EventPlace {
+            failures,
+            headings: self.headings,
+        }
+    }
+
+    /// Returns the prints of a part: those between two headings or failures, or after the last one.
+    fn part_at(&self, part: usize) -> &Prints {
+        self.past.get(part).unwrap_or(&self.prints)
+    }
+
+    /// Returns the text of the prints from a place on, up to the first heading or failure after it: the longest end
+    /// that fits.
+    pub(crate) fn prints_from(&self, at: PrintPlace) -> String {
+        self.part_at(at.part).text_from(at.print)
+    }
+
+    /// Returns the last three of these prints that are not blank.
+    pub(crate) fn last_prints_from(&self, at: PrintPlace) -> Vec<String> {
+        self.part_at(at.part).last_from(at.print)
+    }
+
+    /// Returns the cause of the first failure after an event, unless a heading came between them.
+    pub(crate) fn cause_after(&self, at: EventPlace) -> Option<String> {
+        match self.failure_at(at.failures) {
+            Some(failure) if failure.headings == at.headings => failure.cause.clone(),
+            _ => None,
+        }
+    }
+
+    /// Returns the plain text of the cause of the last failure.
+    pub(crate) fn last_cause(&self) -> Option<String> {
+        match &self.last_failure {
+            Some(Reported {
+                plain_cause: Some(cause),
+                ..
+            }) => Some(cause.clone()),
+            _ => None,
+        }
+    }
+
+    /// Returns the failure before which `earlier` others came.
+    fn failure_at(&self, earlier: usize) -> Option<&Reported> {
+        if earlier == self.failures.len() {
+            self.last_failure.as_ref()
+        } else {
+            self.failures.get(earlier)
+        }
+    }
+}
+
+/// Returns how far the search for a cause is after a print.
+fn stage_after(stage: Stage, plain: &str) -> Stage {
+    match stage {
+        Stage::Failed if says_caused_by(plain.as_bytes()) => Stage::CausedBy,
+        Stage::Failed => Stage::Failed,
+        Stage::Over | Stage::CausedBy => Stage::Over,
+    }
+}
+
+/// Returns true if a line is `Caused by:`, perhaps after spaces.
+fn says_caused_by(plain: &[u8]) -> bool {
+    match spaces_end(plain) {
+        Some(at) => plain[at..] == CAUSED_BY[..],
+        None => false,
+    }
+}
+
+/// Returns the offset of the first byte that is not a space.
+fn spaces_end(text: &[u8]) -> Option<usize> {
+    text.iter().position(|byte| *byte != b' ')
+}

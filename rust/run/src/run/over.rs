@@ -1,0 +1,307 @@
+// Made by tools/erase from crates/test_report_run/src/over.rt. Do not edit.
+//! A suite that is over.
+
+use crate::notes::finish::Finish;
+use crate::notes::note::{
+    Crash, Disagreement, Failure, FailureKind, NotRun, Note, SuiteNote, TestOutcome, failed_count,
+};
+use crate::run::counted::count;
+use crate::run::error::{RunError, one_more};
+use crate::run::flaky::FlakyTests;
+use crate::run::last_line::{Explanation, disagrees, explained};
+use crate::run::others::Others;
+use crate::run::running::RunningTest;
+use crate::run::suite::{FlakyTest, OverTest, Suite};
+use std::rc::Rc;
+
+/// The numbers of a suite that its finished tests do not give.
+#[derive(Clone, Copy)]
+pub(crate) struct Rest {
+    /// The number of skipped tests.
+    pub(crate) skipped: u128,
+
+    /// The number of tests that started, and that neither ended nor were skipped.
+    pub(crate) left: usize,
+
+    /// The time in microseconds.
+    pub(crate) time: Option<u64>,
+}
+
+/// Returns a copy of how a test crashed, which shares the text of the prints.
+fn copy_of(crash: &Crash) -> Crash {
+    let mut last = Vec::new();
+    for line in &crash.last {
+        last.push(line.clone());
+    }
+    let cause = crash.cause.clone();
+    Crash {
+        running: crash.running,
+        has_key: crash.has_key,
+        cause,
+        prints: crash.prints.clone(),
+        last,
+        above: crash.above,
+    }
+}
+
+impl Suite {
+    /// Returns a test of the suite with the cancel reason of the suite.
+    fn known_now(&self, test: OverTest) -> OverTest {
+        OverTest {
+            cancel: self.cancel,
+            ..test
+        }
+    }
+
+    /// Returns a test of the suite that has no line of its end.
+    fn over(&self, test: RunningTest) -> OverTest {
+        OverTest {
+            name: test.name,
+            attempts: 1,
+            time: None,
+            ended: None,
+            slow: test.slow,
+            cancel: self.cancel,
+        }
+    }
+
+    /// Ends the suite without a last line, and adds its notes. `left` are its running tests, which crashed. `others`
+    /// are the lines of the file that are no events. Fails if memory runs out, or a number of the suite does not
+    /// fit.
+    pub(crate) fn end_early(
+        mut self,
+        others: &Others,
+        left: Vec<RunningTest>,
+        notes: &mut Vec<Note>,
+    ) -> Result<(), RunError> {
+        let crashed = left.len();
+        self.crash_left(others, left, notes)?;
+        self.release_flaky(false, notes)?;
+        self.push_early_end(crashed, notes);
+        let rest = Rest {
+            skipped: self.skipped as u128,
+            left: 0,
+            time: self.time,
+        };
+        self.push_numbers(rest, notes);
+        Ok(())
+    }
+
+    /// Counts the running tests of the suite as crashed. `others` are the lines of the file that are no events.
+    fn crash_left(
+        &mut self,
+        others: &Others,
+        mut left: Vec<RunningTest>,
+        notes: &mut Vec<Note>,
+    ) -> Result<(), RunError> {
+        if left.is_empty() {
+            return Ok(());
+        }
+        let mut crash = self.crash(others, left.len());
+        let later = left.split_off(1);
+        self.crash_all(&crash, left, notes)?;
+        crash.above = true;
+        self.crash_all(&crash, later, notes)
+    }
+
+    /// Counts all these tests as crashed in this way.
+    fn crash_all(
+        &mut self,
+        crash: &Crash,
+        tests: Vec<RunningTest>,
+        notes: &mut Vec<Note>,
+    ) -> Result<(), RunError> {
+        for test in tests {
+            let kind = FailureKind::Crashed(copy_of(crash));
+            self.crashed = one_more(self.crashed)?;
+            self.fail(test, kind, notes)?;
+        }
+        Ok(())
+    }
+
+    /// Returns how the first test of the suite crashed. `running` is the number of its running tests.
+    fn crash(&self, others: &Others, running: usize) -> Crash {
+        Crash {
+            running,
+            has_key: self.name.key.is_some(),
+            cause: others.cause_after(self.last_event),
+            prints: Rc::new(others.prints_from(self.start)),
+            last: others.last_prints_from(self.start),
+            above: false,
+        }
+    }
+
+    /// Counts a test without end as failed.
+    fn fail(
+        &mut self,
+        test: RunningTest,
+        kind: FailureKind,
+        notes: &mut Vec<Note>,
+    ) -> Result<(), RunError> {
+        count(&mut self.stats, Finish::Failed, 1, test.slow)?;
+        let failure = Failure {
+            kind,
+            stdout: None,
+            message: None,
+            reason: None,
+        };
+        notes.push(self.note(self.over(test), TestOutcome::Failed(failure)));
+        Ok(())
+    }
+
+    /// Adds the disagreement of a suite that ends early, if there is one.
+    fn push_early_end(&self, crashed: usize, notes: &mut Vec<Note>) {
+        match self.shown_name() {
+            Some(suite) if crashed == 0 => {
+                notes.push(Note::Disagreement(Disagreement::EndedEarly { suite }));
+            }
+            None if self.started > 0 => {
+                let started = self.started;
+                notes.push(Note::Disagreement(Disagreement::OutsideSuite { started }));
+            }
+            _ => {}
+        }
+    }
+
+    /// Counts the flaky tests, as failed or as passed.
+    fn release_flaky(&mut self, have_failed: bool, notes: &mut Vec<Note>) -> Result<(), RunError> {
+        let flaky_tests = std::mem::replace(&mut self.flaky, FlakyTests::new());
+        for flaky in flaky_tests.tests.into_values() {
+            if have_failed {
+                self.fail_flaky(flaky, notes)?;
+            } else {
+                let (attempts, slow) = (flaky.test.attempts, flaky.test.slow);
+                count(&mut self.stats, Finish::Passed, attempts, slow)?;
+                let output = flaky.stdout;
+                let test = self.known_now(flaky.test);
+                notes.push(self.note(test, TestOutcome::Passed { output }));
+            }
+        }
+        Ok(())
+    }
+
+    /// Counts a flaky test as failed.
+    fn fail_flaky(&mut self, flaky: FlakyTest, notes: &mut Vec<Note>) -> Result<(), RunError> {
+        let (attempts, slow) = (flaky.test.attempts, flaky.test.slow);
+        count(&mut self.stats, Finish::FlakyFailed, attempts, slow)?;
+        let failure = Failure {
+            kind: FailureKind::Flaky,
+            stdout: flaky.stdout,
+            message: flaky.message,
+            reason: None,
+        };
+        let test = self.known_now(flaky.test);
+        notes.push(self.note(test, TestOutcome::Failed(failure)));
+        Ok(())
+    }
+
+    /// Ends the suite after its last line, and adds its notes. `left` are its running tests. Fails if memory runs
+    /// out, or a number of the suite does not fit.
+    pub(crate) fn end(
+        mut self,
+        left: Vec<RunningTest>,
+        notes: &mut Vec<Note>,
+    ) -> Result<(), RunError> {
+        let explained = self.explained(left.len())?;
+        let mut skipped = left;
+        let others = skipped.split_off(explained.skipped);
+        self.skip_all(skipped, notes);
+        let left = self.fail_lost(explained.others_failed, others, notes)?;
+        self.release_flaky(explained.flaky_failed, notes)?;
+        self.push_disagreement(notes)?;
+        let rest = Rest {
+            skipped: self.skipped as u128 + explained.skipped as u128 + explained.nameless,
+            left,
+            time: self.said.time.or(self.time),
+        };
+        self.push_numbers(rest, notes);
+        Ok(())
+    }
+
+    /// Returns which tests the last line explains. `left` is the number of running tests. Fails if a number that
+    /// decides this does not fit.
+    fn explained(&self, left: usize) -> Result<Explanation, RunError> {
+        let said = self.said.numbers()?;
+        let ignored = self.said.ignored.unwrap_or(0);
+        Ok(explained(self.tally(left)?, said, ignored))
+    }
+
+    /// Counts tests without end as failed if `have_failed` is true. Returns how many are not counted.
+    fn fail_lost(
+        &mut self,
+        have_failed: bool,
+        tests: Vec<RunningTest>,
+        notes: &mut Vec<Note>,
+    ) -> Result<usize, RunError> {
+        if have_failed {
+            self.fail_all(tests, notes)?;
+            Ok(0)
+        } else {
+            Ok(tests.len())
+        }
+    }
+
+    /// Counts tests without end as failed.
+    fn fail_all(&mut self, tests: Vec<RunningTest>, notes: &mut Vec<Note>) -> Result<(), RunError> {
+        for test in tests {
+            self.fail(test, FailureKind::WithoutEnd, notes)?;
+        }
+        Ok(())
+    }
+
+    /// Adds that tests without end were skipped.
+    fn skip_all(&self, tests: Vec<RunningTest>, notes: &mut Vec<Note>) {
+        for test in tests {
+            let outcome = TestOutcome::Skipped { reason: None };
+            notes.push(self.note(self.over(test), outcome));
+        }
+    }
+
+    /// Adds a disagreement if the last line contradicts the tests. Fails if memory runs out, or the number of passed
+    /// tests that the last lines say does not fit.
+    fn push_disagreement(&self, notes: &mut Vec<Note>) -> Result<(), RunError> {
+        let said = self.said.numbers()?;
+        let (passed, failed) = (self.stats.passed, failed_count(&self.stats));
+        let name = self.shown_name();
+        if let (Some(suite), true) = (name, disagrees(said, passed, failed)) {
+            notes.push(Note::Disagreement(Disagreement::LastLine {
+                suite,
+                said,
+                passed,
+                failed,
+            }));
+        }
+        Ok(())
+    }
+
+    /// Adds the numbers of the suite, after how many of its tests did not run if that is not 0.
+    fn push_numbers(&self, rest: Rest, notes: &mut Vec<Note>) {
+        let finished = self.stats.finished_count as u128;
+        let initial_run_count = self.initial_run_count(rest);
+        let not_run = initial_run_count - finished;
+        if let (Some(suite), true) = (self.shown_name(), not_run > 0) {
+            notes.push(Note::NotRun(NotRun {
+                suite,
+                not_run,
+                initial_run_count,
+            }));
+        }
+        notes.push(Note::Suite(SuiteNote {
+            name: self.shown_name(),
+            stats: self.stats,
+            skipped: rest.skipped,
+            not_run,
+            crashed: self.crashed,
+            time: rest.time,
+        }));
+    }
+
+    /// Returns the number of tests that were to run.
+    fn initial_run_count(&self, rest: Rest) -> u128 {
+        let least = self.stats.finished_count as u128 + rest.left as u128;
+        match self.test_count {
+            Some(test_count) => test_count.saturating_sub(rest.skipped).max(least),
+            None => least,
+        }
+    }
+}

@@ -1,0 +1,102 @@
+// Made by tools/erase from crates/test_report_run/src/run/lines.rt. Do not edit.
+//! Headings, failures of cargo, prints, and damaged lines.
+
+use crate::events::event::CargoFailure;
+use crate::notes::note::{CargoReport, Disagreement, Note};
+use crate::run::cuts::shortened;
+use crate::run::error::{RunError, one_more};
+use crate::run::run::TestRun;
+use std::rc::Rc;
+
+/// The front of the line in which cargo says that tests failed.
+const TESTS_FAILED: &[u8] = b"error: test failed";
+
+impl TestRun {
+    /// Takes a heading of cargo. Fails if memory runs out, or the number of headings does not fit.
+    pub(crate) fn on_heading(&mut self, name: &str, path: Option<&str>) -> Result<(), RunError> {
+        self.others.on_heading()?;
+        let own = self.headings.take_heading(name, path);
+        let name = self.known_name(path).unwrap_or(own);
+        self.heading = Some(Rc::new(name));
+        Ok(())
+    }
+
+    /// Returns the name that is known of the suites of the binary with this path.
+    fn known_name(&self, path: Option<&str>) -> Option<String> {
+        path.and_then(|path| self.names.get(path)).map(String::from)
+    }
+
+    /// Takes a print. Fails if memory runs out, or the number of prints does not fit.
+    pub(crate) fn on_print(&mut self, line: &str, plain: &str) -> Result<(), RunError> {
+        self.others.on_print(line, plain)?;
+        self.recent.take_line(plain);
+        Ok(())
+    }
+
+    /// Takes a line in which cargo or nextest reports a failure. If it disagrees, it counts from now on. Fails if
+    /// memory runs out, or the number of failed tests and disagreements does not fit.
+    pub(crate) fn on_cargo_failed(
+        &mut self,
+        failure: CargoFailure,
+        plain: &str,
+    ) -> Result<(), RunError> {
+        let disagrees = self.disagrees(failure);
+        self.others.on_failure();
+        if disagrees {
+            let lacks_events = self.lacks_events(plain);
+            self.causes = one_more(self.causes)?;
+            self.reported = Some(CargoReport {
+                line: String::from(plain),
+                prints: self.recent.text(0),
+                cause: None,
+                lacks_events,
+            });
+            self.lacked_events = self.lacked_events || lacks_events;
+        }
+        Ok(())
+    }
+
+    /// Returns true if a failure of cargo is the first one in the file that says that tests failed, and no line of
+    /// the file was an event of a harness.
+    fn lacks_events(&self, plain: &str) -> bool {
+        !self.has_event && (!self.lacked_events && begins(plain.as_bytes(), TESTS_FAILED))
+    }
+
+    /// Returns true if no suite is open, and no failed test or earlier disagreement explains this failure of cargo
+    /// or nextest. A failed build is never explained.
+    fn disagrees(&self, failure: CargoFailure) -> bool {
+        let explained = match failure {
+            CargoFailure::Build => false,
+            CargoFailure::Tests => self.causes > self.causes_at_cargo,
+            CargoFailure::Run => self.causes > self.causes_at_file,
+        };
+        self.suites.list.is_empty() && !explained
+    }
+
+    /// Makes the last failure of cargo known, if it is not yet, with the cause that was read after it. In the output of
+    /// a command it waits for the end of the command. `heard` is true if an event of a harness follows.
+    pub(crate) fn settle(&mut self, heard: bool, notes: &mut Vec<Note>) {
+        let Some(mut report) = self.reported.take() else {
+            return;
+        };
+        report.cause = self.others.last_cause();
+        report.lacks_events = report.lacks_events && !heard;
+        if self.of_command {
+            self.held.push(report);
+        } else {
+            notes.push(Note::Disagreement(Disagreement::Cargo(report)));
+        }
+    }
+}
+
+/// Returns true if a line begins with this text.
+fn begins(line: &[u8], front: &[u8]) -> bool {
+    line.starts_with(front)
+}
+
+/// Adds the disagreement of a damaged line that says a failure.
+pub(crate) fn push_damaged(text: &str, notes: &mut Vec<Note>) {
+    notes.push(Note::Disagreement(Disagreement::Damaged {
+        text: String::from(shortened(text)),
+    }));
+}

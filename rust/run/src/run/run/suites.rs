@@ -1,0 +1,146 @@
+// Made by tools/erase from crates/test_report_run/src/run/suites.rt. Do not edit.
+//! The first and the last lines of suites.
+
+use crate::events::event::{SuiteEnd, SuiteKey};
+use crate::notes::note::{Disagreement, Note};
+use crate::run::error::RunError;
+use crate::run::run::TestRun;
+use crate::run::suite::Suite;
+
+impl TestRun {
+    /// Takes the first line of a suite.
+    pub(crate) fn on_suite_started(
+        &mut self,
+        key: Option<SuiteKey<'_>>,
+        test_count: Option<u64>,
+        notes: &mut Vec<Note>,
+    ) -> Result<(), RunError> {
+        let key = key_text(key);
+        let test_count = test_count.map(u128::from);
+        match self.open_suite(key.as_deref()) {
+            Some(at) => self.start_again(key, test_count, at, notes),
+            None => self.open(key, test_count),
+        }
+    }
+
+    /// Takes the first line of a suite while a suite with the same key, or also without a key, is open at a
+    /// position. With a key, the line is added to the open suite. Without a key, the open suite ends early
+    /// and another one starts.
+    fn start_again(
+        &mut self,
+        key: Option<String>,
+        test_count: Option<u128>,
+        at: usize,
+        notes: &mut Vec<Note>,
+    ) -> Result<(), RunError> {
+        if key.is_some() {
+            self.join(test_count, at)
+        } else {
+            let suite = self.take_out(at);
+            self.end_early(suite, notes)?;
+            self.open(key, test_count)
+        }
+    }
+
+    /// Adds a first line to the open suite at a position.
+    fn join(&mut self, test_count: Option<u128>, at: usize) -> Result<(), RunError> {
+        let place = self.others.event_place();
+        let suite = &mut self.suites.list[at];
+        suite.join(test_count)?;
+        suite.last_event = place;
+        Ok(())
+    }
+
+    /// Removes the open suite at a position, and returns it.
+    fn take_out(&mut self, at: usize) -> Suite {
+        self.suites.remove(at)
+    }
+
+    /// Opens a suite with a key that no open suite has, or without a key if all open suites have one.
+    fn open(&mut self, key: Option<String>, test_count: Option<u128>) -> Result<(), RunError> {
+        let heading = self.heading.clone();
+        self.suites.open(key, heading, test_count, &self.others)
+    }
+
+    /// Takes a last line of a suite.
+    pub(crate) fn on_suite_ended(
+        &mut self,
+        end: SuiteEnd<'_>,
+        notes: &mut Vec<Note>,
+    ) -> Result<(), RunError> {
+        let key = key_text(end.key);
+        match self.open_suite(key.as_deref()) {
+            Some(at) => self.end_at(end, at, notes),
+            None => {
+                if counts_tests(end) {
+                    notes.push(Note::Disagreement(Disagreement::StraySuiteEnd {
+                        key,
+                        failed_verdict: end.failed_verdict,
+                    }));
+                }
+                Ok(())
+            }
+        }
+    }
+
+    /// Takes a last line of the open suite at a position. Fails if memory runs out, or a number of the suite does not
+    /// fit.
+    fn end_at(
+        &mut self,
+        end: SuiteEnd<'_>,
+        at: usize,
+        notes: &mut Vec<Note>,
+    ) -> Result<(), RunError> {
+        if self.add_last_line(end, at)? {
+            let suite = self.take_out(at);
+            self.end_suite(suite, notes)
+        } else {
+            Ok(())
+        }
+    }
+
+    /// Adds a last line to the open suite at a position. Returns true if the suite is over.
+    fn add_last_line(&mut self, end: SuiteEnd<'_>, at: usize) -> Result<bool, RunError> {
+        let place = self.others.event_place();
+        let suite = &mut self.suites.list[at];
+        let is_over = suite.on_last_line(end)?;
+        suite.last_event = place;
+        Ok(is_over)
+    }
+
+    /// Ends a suite that has its last line.
+    fn end_suite(&mut self, mut suite: Suite, notes: &mut Vec<Note>) -> Result<(), RunError> {
+        let left = self.running.take_suite(suite.name.number);
+        suite.cancel = self.cancel;
+        suite.end(left, notes)
+    }
+
+    /// Ends a suite that has no last line.
+    pub(crate) fn end_early(
+        &mut self,
+        mut suite: Suite,
+        notes: &mut Vec<Note>,
+    ) -> Result<(), RunError> {
+        let left = self.running.take_suite(suite.name.number);
+        suite.cancel = self.cancel;
+        suite.end_early(&self.others, left, notes)
+    }
+
+    /// Returns the position of the first open suite with a key, or without a key.
+    pub(crate) fn open_suite(&self, key: Option<&str>) -> Option<usize> {
+        self.suites.place_of_key(key)
+    }
+}
+
+/// Returns the text of a key.
+fn key_text(key: Option<SuiteKey<'_>>) -> Option<String> {
+    key.map(|key| key.to_string())
+}
+
+/// Returns true if a last line says that the suite failed, or counts a test that ran.
+fn counts_tests(end: SuiteEnd<'_>) -> bool {
+    end.failed_verdict
+        || end.passed.is_some_and(|count| count > 0)
+        || end.measured.is_some_and(|count| count > 0)
+        || end.failed.is_some_and(|count| count > 0)
+}

@@ -1,0 +1,204 @@
+// Made by tools/erase from crates/test_report_run/src/run/test_lines.rt. Do not edit.
+//! The starts and the ends of tests.
+
+use crate::events::event::{TestDetails, TestResult};
+use crate::notes::note::{Disagreement, Note};
+use crate::run::error::{RunError, one_more};
+use crate::run::run::TestRun;
+use crate::run::running::RunningTest;
+use crate::run::suite::OverTest;
+
+impl TestRun {
+    /// Takes the start of a test. Fails if memory runs out, or a number of the run does not fit.
+    pub(crate) fn on_test_started(&mut self, name: &str) -> Result<(), RunError> {
+        let number = self.count_start(name)?;
+        self.running.begin(name, number)
+    }
+
+    /// Counts the start of a test in its suite. Returns the number of the suite, if it has one.
+    fn count_start(&mut self, name: &str) -> Result<Option<usize>, RunError> {
+        let place = self.others.event_place();
+        match self.suite_of(name) {
+            Some(at) => {
+                let suite = &mut self.suites.list[at];
+                suite.on_start(name)?;
+                suite.last_event = place;
+                Ok(suite.name.number)
+            }
+            None => {
+                self.outside.on_start(name)?;
+                self.outside.last_event = place;
+                Ok(self.outside.name.number)
+            }
+        }
+    }
+
+    /// Marks the running test with this name as slow, and stores that its suite had an event. Changes nothing if there
+    /// is no such test.
+    pub(crate) fn on_test_slow(&mut self, name: &str) {
+        if let Some(number) = self.running.mark_slow(name) {
+            self.hear(number);
+        }
+    }
+
+    /// Stores that the line is an event of a suite. `number` is the number of the suite, or `None` for the tests
+    /// outside of a suite.
+    fn hear(&mut self, number: Option<usize>) {
+        let place = self.others.event_place();
+        match self.suite_of_number(number) {
+            Some(at) => self.suites.list[at].last_event = place,
+            None => self.outside.last_event = place,
+        }
+    }
+
+    /// Returns true if a running test that ends with this time is slow.
+    fn is_slow(&self, test: &RunningTest, time: Option<u64>) -> bool {
+        test.slow || self.is_long(time)
+    }
+
+    /// Returns true if a test with this time is slow.
+    fn is_long(&self, time: Option<u64>) -> bool {
+        time.is_some_and(|time| self.slow <= time)
+    }
+
+    /// Returns the position of the open suite that a starting test with this name belongs to, or `None` if no
+    /// suite is open.
+    fn suite_of(&self, name: &str) -> Option<usize> {
+        if self.suites.list.len() == 1 {
+            return Some(0);
+        }
+        let named = match name.split_once('$') {
+            Some((key, _)) => self.open_suite(Some(key)),
+            None => None,
+        };
+        if named.is_some() {
+            return named;
+        }
+        self.open_suite(None)
+            .or(self.suites.list.len().checked_sub(1))
+    }
+
+    /// Takes the end of a test.
+    pub(crate) fn on_test_ended(
+        &mut self,
+        name: &str,
+        end: TestResult,
+        details: TestDetails<'_>,
+        notes: &mut Vec<Note>,
+    ) -> Result<(), RunError> {
+        // Most ends make one note known. Room for more would be slow.
+        notes.reserve_exact(1);
+        self.end_test(name, end, details, notes)?;
+        self.ended = one_more(self.ended)?;
+        Ok(())
+    }
+
+    /// Takes the end of a test, except that the number of ended tests stays the same.
+    fn end_test(
+        &mut self,
+        name: &str,
+        end: TestResult,
+        details: TestDetails<'_>,
+        notes: &mut Vec<Note>,
+    ) -> Result<(), RunError> {
+        match self.running.end(name) {
+            Some((test, attempts)) => self.count_end(test, attempts, end, details, notes),
+            None => self.on_stray_end(name, end, details, notes),
+        }
+    }
+
+    /// Counts the end of a test that was running.
+    fn count_end(
+        &mut self,
+        test: RunningTest,
+        attempts: usize,
+        end: TestResult,
+        details: TestDetails<'_>,
+        notes: &mut Vec<Note>,
+    ) -> Result<(), RunError> {
+        let order = test.order;
+        let slow = self.is_slow(&test, details.time);
+        let place = self.suite_of_number(test.suite);
+        let over = OverTest {
+            name: test.name,
+            attempts,
+            time: details.time,
+            ended: Some(self.ended),
+            slow,
+            cancel: self.cancel,
+        };
+        let event = self.others.event_place();
+        match place {
+            Some(at) => {
+                let suite = &mut self.suites.list[at];
+                suite.on_end(over, order, end, details, notes)?;
+                suite.last_event = event;
+                Ok(())
+            }
+            None => {
+                self.outside.on_end(over, order, end, details, notes)?;
+                self.outside.last_event = event;
+                Ok(())
+            }
+        }
+    }
+
+    /// Returns the position of the open suite with a number.
+    fn suite_of_number(&self, number: Option<usize>) -> Option<usize> {
+        self.suites.place_of_number(number)
+    }
+
+    /// Takes the end of a test that is not running. The test is counted unless it passed. The end is a
+    /// disagreement unless the test was ignored.
+    fn on_stray_end(
+        &mut self,
+        name: &str,
+        end: TestResult,
+        details: TestDetails<'_>,
+        notes: &mut Vec<Note>,
+    ) -> Result<(), RunError> {
+        if end != TestResult::Ok {
+            self.count_stray(name, end, details, notes)?;
+        }
+        if end != TestResult::Ignored {
+            notes.push(Note::Disagreement(Disagreement::StrayEnd {
+                name: String::from(name),
+                result: end,
+            }));
+        }
+        Ok(())
+    }
+
+    /// Counts the end of a test that is not running.
+    fn count_stray(
+        &mut self,
+        name: &str,
+        end: TestResult,
+        details: TestDetails<'_>,
+        notes: &mut Vec<Note>,
+    ) -> Result<(), RunError> {
+        let slow = self.is_long(details.time);
+        let test = OverTest {
+            name: String::from(name),
+            attempts: 1,
+            time: details.time,
+            ended: Some(self.ended),
+            slow,
+            cancel: self.cancel,
+        };
+        let event = self.others.event_place();
+        match self.suite_of(name) {
+            Some(at) => {
+                let suite = &mut self.suites.list[at];
+                suite.on_stray_end(test, end, details, notes)?;
+                suite.last_event = event;
+                Ok(())
+            }
+            None => {
+                self.outside.on_stray_end(test, end, details, notes)?;
+                self.outside.last_event = event;
+                Ok(())
+            }
+        }
+    }
+}

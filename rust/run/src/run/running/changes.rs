@@ -1,0 +1,153 @@
+// Made by tools/erase from crates/test_report_run/src/running/changes.rt. Do not edit.
+//! What starts and ends running tests.
+
+use crate::run::error::{RunError, one_more};
+use crate::run::running::names::NameOrders;
+use crate::run::running::{Running, RunningTest};
+use std::collections::{BTreeMap, BTreeSet};
+
+/// The most attempts that a name may end with.
+const MOST_ATTEMPTS: usize = 1_000;
+
+impl Running {
+    /// Returns no tests.
+    pub fn new() -> Running {
+        Running {
+            tests: BTreeMap::new(),
+            names: NameOrders::new(),
+            suites: BTreeSet::new(),
+            started: 0,
+        }
+    }
+
+    /// Adds a test that starts. `suite` is the number of its suite, or `None` outside of a suite. After an error
+    /// tests may be missing. Fails if memory runs out, or the number of tests that started does not fit.
+    pub fn begin(&mut self, name: &str, suite: Option<usize>) -> Result<(), RunError> {
+        let order = self.started;
+        let started = one_more(order)?;
+        let test = RunningTest {
+            name: String::from(name),
+            suite,
+            order,
+            slow: false,
+        };
+        let Running {
+            mut tests,
+            mut names,
+            mut suites,
+            started: _,
+        } = std::mem::replace(self, Running::new());
+        names.insert(name, order);
+        suites.insert((suite, order));
+        tests.insert(order, test);
+        *self = Running {
+            tests,
+            names,
+            suites,
+            started,
+        };
+        Ok(())
+    }
+
+    /// Removes the test that ends, and returns it with the number of its attempts. `written` is the name in
+    /// the line of its end. Returns `None` if no such test is running.
+    pub fn end(&mut self, written: &str) -> Option<(RunningTest, usize)> {
+        if let Some(test) = self.remove_named(written) {
+            return Some((test, 1));
+        }
+        let (name, attempts) = name_and_attempts(written)?;
+        let test = self.remove_named(name)?;
+        Some((test, attempts))
+    }
+
+    /// Marks the running test that a line calls slow, and returns the number of its suite, which is `None` outside of
+    /// a suite. `written` is the name in the line. Returns `None` if no such test is running.
+    pub(crate) fn mark_slow(&mut self, written: &str) -> Option<Option<usize>> {
+        if let Some(suite) = self.mark_named(written) {
+            return Some(suite);
+        }
+        let (name, _) = name_and_attempts(written)?;
+        self.mark_named(name)
+    }
+
+    /// Returns the number of tests that started.
+    pub(crate) fn started(&self) -> usize {
+        self.started
+    }
+
+    /// Returns the test that started first.
+    pub(crate) fn first(&self) -> Option<&RunningTest> {
+        let (_, test) = self.tests.first_key_value()?;
+        Some(test)
+    }
+
+    /// Removes the tests of a suite, and returns them in the order in which they started.
+    pub(crate) fn take_suite(&mut self, suite: Option<usize>) -> Vec<RunningTest> {
+        let mut taken = Vec::new();
+        while let Some(test) = self.remove_of_suite(suite) {
+            taken.push(test);
+        }
+        taken
+    }
+
+    /// Removes the first test with a name, and returns it.
+    fn remove_named(&mut self, name: &str) -> Option<RunningTest> {
+        let order = self.names.first(name)?;
+        self.remove(order)
+    }
+
+    /// Marks the first test with a name as slow, and returns the number of its suite.
+    fn mark_named(&mut self, name: &str) -> Option<Option<usize>> {
+        let order = self.names.first(name)?;
+        self.mark(order)
+    }
+
+    /// Marks the test with this number as slow, and returns the number of its suite.
+    fn mark(&mut self, order: usize) -> Option<Option<usize>> {
+        let test = self.tests.get_mut(&order)?;
+        test.slow = true;
+        Some(test.suite)
+    }
+
+    /// Removes the first test of a suite, and returns it.
+    fn remove_of_suite(&mut self, suite: Option<usize>) -> Option<RunningTest> {
+        let order = self.first_of_suite(suite)?;
+        self.remove(order)
+    }
+
+    /// Returns the number of the first test of a suite.
+    fn first_of_suite(&self, suite: Option<usize>) -> Option<usize> {
+        match self.suites.range((suite, 0)..).next() {
+            Some((found, order)) if *found == suite => Some(*order),
+            _ => None,
+        }
+    }
+
+    /// Removes the test with this number, and returns it.
+    fn remove(&mut self, order: usize) -> Option<RunningTest> {
+        let test = self.tests.remove(&order)?;
+        self.names.remove(test.name.as_str(), order);
+        self.suites.remove(&(test.suite, order));
+        Some(test)
+    }
+}
+
+/// Splits a name that ends with `#` and a number of attempts into the name of the test and the number.
+fn name_and_attempts(written: &str) -> Option<(&str, usize)> {
+    let (name, digits) = written.rsplit_once('#')?;
+    let attempts = number_of_attempts(digits)?;
+    Some((name, attempts))
+}
+
+/// Parses a number of attempts, which is from 2 to 1,000 and has neither a sign nor a leading zero.
+fn number_of_attempts(digits: &str) -> Option<usize> {
+    if digits.starts_with('+') || digits.starts_with('0') {
+        return None;
+    }
+    let attempts: usize = digits.parse().ok()?;
+    if (2..=MOST_ATTEMPTS).contains(&attempts) {
+        Some(attempts)
+    } else {
+        None
+    }
+}

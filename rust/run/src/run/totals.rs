@@ -1,0 +1,78 @@
+// Made by tools/erase from crates/test_report_run/src/totals.rt. Do not edit.
+//! The sums over all suites of a run.
+
+use crate::notes::note::{RunEnd, SuiteNote};
+use crate::run::error::{RunError, one_more};
+use crate::run::said::time_sum;
+use deodarsieve::{RunFailureStep, RunOutcome, RunStats};
+
+/// The sums over the suites that are over.
+#[derive(Clone, Copy)]
+pub(crate) struct Totals {
+    end: RunEnd,
+}
+
+impl Totals {
+    /// Returns the sums over no suites.
+    pub(crate) fn new() -> Totals {
+        Totals {
+            end: RunEnd {
+                stats: RunStats::default(),
+                skipped: 0,
+                not_run: 0,
+                crashed: 0,
+                time: None,
+                outcome: RunOutcome::NoTestsRun,
+            },
+        }
+    }
+
+    /// Adds a suite. Fails if a sum does not fit.
+    pub(crate) fn add(&mut self, suite: &SuiteNote) -> Result<(), RunError> {
+        self.end.stats.try_add(&suite.stats)?;
+        let crashed = self.end.crashed.checked_add(suite.crashed);
+        self.end.crashed = crashed.ok_or(RunError::CounterFull)?;
+        self.end.skipped = plus(self.end.skipped, suite.skipped)?;
+        self.end.not_run = plus(self.end.not_run, suite.not_run)?;
+        self.end.time = time_sum(self.end.time, suite.time);
+        self.end.outcome = self.end.outcome.combine(outcome_of(suite)?);
+        Ok(())
+    }
+
+    /// Returns the sums and the outcome of the run. `disagreements` is the number of contradictions. If it is
+    /// not 0, the run failed.
+    pub(crate) fn end(&self, disagreements: usize) -> RunEnd {
+        let failed = RunOutcome::Failed {
+            step: RunFailureStep::Test,
+        };
+        let outcome = if disagreements == 0 {
+            self.end.outcome
+        } else {
+            failed
+        };
+        RunEnd {
+            outcome,
+            ..self.end
+        }
+    }
+}
+
+/// Returns the outcome of a suite. It depends on whether all tests ran, and not on how many did not. Fails if
+/// the number of finished tests is `usize::MAX`.
+fn outcome_of(suite: &SuiteNote) -> Result<RunOutcome, RunError> {
+    let finished = suite.stats.finished_count;
+    let stats = RunStats {
+        initial_run_count: if suite.not_run > 0 {
+            one_more(finished)?
+        } else {
+            finished
+        },
+        ..suite.stats
+    };
+    Ok(RunOutcome::from_final_stats(stats.summarize_final()))
+}
+
+/// Adds two numbers. Fails if the sum does not fit.
+fn plus(a: u128, b: u128) -> Result<u128, RunError> {
+    a.checked_add(b).ok_or(RunError::CounterFull)
+}
