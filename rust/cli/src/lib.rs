@@ -26,7 +26,17 @@ pub mod reading;
 #[doc(hidden)]
 pub mod replaced_file;
 #[doc(hidden)]
+pub mod report;
+#[doc(hidden)]
 pub mod report_program;
+#[doc(hidden)]
+pub mod report_templates;
+#[doc(hidden)]
+#[allow(
+    clippy::new_without_default,
+    reason = "`ReportText::new` takes an allocator in the proved text, where there is no `Default` for it"
+)]
+pub mod report_text;
 #[doc(hidden)]
 pub mod run_digest_engine;
 #[doc(hidden)]
@@ -37,33 +47,3 @@ pub mod same_file;
 pub mod standard_streams;
 #[doc(hidden)]
 pub mod template;
-#[doc(hidden)]
-#[allow(
-    clippy::new_without_default,
-    reason = "`Pieces::new` takes an allocator in the proved text, where there is no `Default` for it"
-)]
-pub mod test_report_engine;
-#[doc(hidden)]
-pub mod test_report_events;
-#[doc(hidden)]
-pub mod test_report_forms;
-#[doc(hidden)]
-#[allow(
-    clippy::new_without_default,
-    reason = "`Running::new` takes an allocator in the proved text, where there is no `Default` for it"
-)]
-#[allow(
-    clippy::vec_box,
-    reason = "open suites are large, and the removal of one moves all later ones"
-)]
-#[allow(
-    clippy::mem_replace_option_with_some,
-    reason = "`tools/erase` takes a call of a method `replace` for that of texts, which allocates in the proved text"
-)]
-#[allow(
-    clippy::unwrap_or_default,
-    reason = "a set takes an allocator in the proved text, where there is no `Default` for it"
-)]
-pub mod test_report_run;
-#[doc(hidden)]
-pub mod test_report_run_notes;

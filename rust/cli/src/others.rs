@@ -11,7 +11,7 @@ pub struct Others<W> {
     /// True if the lines are written, and false if they are dropped.
     pub are_wanted: bool,
 
-    /// The lines that were written before, and are dropped if they come again. The engine writes each line in one call.
+    /// The lines that were written before, and are dropped if they come again. The report writes each line in one call.
     pub repeated: Repeated,
 
     has_failed: bool,

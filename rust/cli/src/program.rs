@@ -4,7 +4,7 @@
 use crate::program_io::fault::DeviceFault;
 use crate::program_io::std_device::{StdSink, StdSource};
 use crate::standard_streams::check_output;
-use crate::{run_digest_engine, test_report_engine};
+use crate::{report, run_digest_engine};
 use std::fmt;
 use std::io::{self, ErrorKind, Read, Write};
 use std::process::ExitCode;
@@ -112,8 +112,8 @@ impl From<run_digest_engine::fault::Fault> for Failure {
     }
 }
 
-impl From<test_report_engine::fault::Fault> for Failure {
-    fn from(fault: test_report_engine::fault::Fault) -> Failure {
+impl From<report::fault::Fault> for Failure {
+    fn from(fault: report::fault::Fault) -> Failure {
         Failure::new(fault.status(), fault.to_string())
     }
 }

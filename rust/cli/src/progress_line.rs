@@ -1,5 +1,6 @@
 //! The line on standard error that shows the progress of the run.
 
+use crate::report_text::ReportText;
 use std::cell::RefCell;
 use std::collections::VecDeque;
 use std::io::{self, Stderr, Write};
@@ -57,15 +58,16 @@ impl<T: Write> ProgressLine<T> {
 
     /// Writes the line if it is due. A line that is due because of input is not written if its text is still
     /// the same.
-    pub fn refresh(&mut self, now: Instant, text: impl FnOnce() -> String) {
+    pub fn refresh(&mut self, now: Instant, text: impl FnOnce() -> ReportText) {
         if self.time_until_due(now) != Some(Duration::ZERO) {
             return;
         }
         let text = text();
-        if !self.is_stale || self.shown.as_ref() != Some(&text) {
+        let text = text.as_str();
+        if !self.is_stale || self.shown.as_deref() != Some(text) {
             // The terminal cuts the text at its width, because the line does not wrap.
             self.write(&format!("\r\u{1b}[K\u{1b}[?7l{text}\u{1b}[?7h"));
-            self.shown = Some(text);
+            self.shown = Some(text.to_string());
         }
         self.written = Some(now);
         self.is_stale = false;
@@ -158,6 +160,13 @@ impl<W: Write> Write for Output<'_, W> {
 mod tests {
     use super::*;
 
+    /// Returns a text.
+    fn text_of(pushed: &str) -> ReportText {
+        let mut text = ReportText::new();
+        text.push(pushed);
+        text
+    }
+
     /// Runs the line for some milliseconds, and returns when it was due: at each time in `input` a text is
     /// read, and at each time in `above` text is written above the line.
     fn due_times(milliseconds: u64, input: &[u64], above: &[u64]) -> Vec<u64> {
@@ -173,7 +182,7 @@ mod tests {
             let now = start + Duration::from_millis(time);
             line.refresh(now, || {
                 due.push(time);
-                format!("the text at {time}")
+                text_of(&format!("the text at {time}"))
             });
         }
         due
@@ -233,7 +242,7 @@ mod tests {
         let (mut line, start) = (ProgressLine::new(Vec::new()), Instant::now());
         for tenths in 0..5 {
             line.note_input();
-            line.refresh(start + tenths * SHORTEST_PAUSE, || "one".to_string());
+            line.refresh(start + tenths * SHORTEST_PAUSE, || text_of("one"));
         }
         line.say("a message");
         assert_eq!(

@@ -7,25 +7,14 @@ use crate::output_files::{STANDARD_INPUT, refuse_conflicts, remove_old_files};
 use crate::program::{BAD_ARGUMENT, DEVICE_FAILED, Failure, KeepError, print_clap};
 use crate::progress_line::ProgressLine;
 use crate::replaced_file::{append, replace};
+use crate::report::fault::Fault;
+use crate::report::options::{Options, OutputDisplay};
+use crate::report::{Document, FileTexts, Files, Format, Json, Report};
 use crate::run_input::{Input, PassOn, RunReader, Streams};
 use crate::standard_streams::{StandardOutput, check_output};
-use crate::test_report_engine::fault::Fault;
-use crate::test_report_engine::report::Report;
-use crate::test_report_engine::status::exit_status;
-use crate::test_report_events::time::microseconds;
-use crate::test_report_forms::annotated::AnnotatedForm;
-use crate::test_report_forms::files::{FileForms, FileTexts};
-use crate::test_report_forms::form::Form;
-use crate::test_report_forms::github::GithubForm;
-use crate::test_report_forms::html::HtmlForm;
-use crate::test_report_forms::json_form::JsonForm;
-use crate::test_report_forms::junit::JunitForm;
-use crate::test_report_forms::markdown::MarkdownForm;
-use crate::test_report_forms::names::NamesForm;
-use crate::test_report_forms::options::{Options, OutputDisplay};
-use crate::test_report_forms::text::TextForm;
 use clap::{ArgMatches, Command};
 use deodarsieve::{FinalStatusLevel, StatusLevel, TestOutputDisplay};
+use deodarsieve_run::microseconds;
 use std::cell::RefCell;
 use std::env;
 use std::ffi::OsString;
@@ -50,15 +39,6 @@ const LIMIT: usize = 4_096;
 
 /// The default of `--slow` in microseconds.
 const SLOW: u64 = 60_000_000;
-
-/// The settings of a report.
-#[derive(Clone, Copy)]
-struct Settings {
-    options: Options,
-
-    /// The time in microseconds from which on a test is slow.
-    slow: u64,
-}
 
 /// Returns the limit that the arguments give, or `None` if `--limit` is absent.
 fn limit_of(matches: &ArgMatches) -> Result<Option<usize>, Failure> {
@@ -198,17 +178,13 @@ fn pass_on(matches: &ArgMatches) -> PassOn {
     }
 }
 
-/// Returns the forms of the files that the arguments ask for.
-fn file_forms(matches: &ArgMatches, options: Options) -> FileForms {
-    FileForms {
-        junit: matches
-            .contains_id("junit")
-            .then(|| JunitForm::new(options)),
-        html: matches.contains_id("html").then(|| HtmlForm::new(options)),
-        markdown: matches
-            .contains_id("markdown")
-            .then(|| MarkdownForm::new(options)),
-        json: matches.contains_id("json").then(|| JsonForm::new(options)),
+/// Returns the files that the arguments ask for.
+fn files_of(matches: &ArgMatches) -> Files {
+    Files {
+        junit: matches.contains_id("junit"),
+        html: matches.contains_id("html"),
+        markdown: matches.contains_id("markdown"),
+        json: matches.contains_id("json"),
     }
 }
 
@@ -217,12 +193,16 @@ fn write_files(matches: &ArgMatches, texts: &FileTexts) -> Result<(), Failure> {
     let files = [
         (
             "junit",
-            &texts.junit,
+            texts.junit.as_ref().map(Document::as_str),
             replace as fn(&str, &str) -> io::Result<()>,
         ),
-        ("html", &texts.html, replace),
-        ("markdown", &texts.markdown, append),
-        ("json", &texts.json, replace),
+        ("html", texts.html.as_ref().map(Document::as_str), replace),
+        (
+            "markdown",
+            texts.markdown.as_ref().map(Document::as_str),
+            append,
+        ),
+        ("json", texts.json.as_ref().map(Json::as_str), replace),
     ];
     for (name, text, write) in files {
         if let (Some(path), Some(text)) = (matches.get_one::<String>(name), text) {
@@ -240,18 +220,17 @@ fn catch_first_interrupt() -> Result<Interrupt, Failure> {
     })
 }
 
-/// Writes the report to standard output in a form, and then the files. Returns the exit status, which is that of a
-/// failed device if a line that is no event could not be passed on. If the reader of standard output has gone, no
-/// message is written to standard error.
-fn report_in<F: Form>(
+/// Writes the report to standard output, and then the files. Returns the exit status, which is that of a failed device
+/// if a line that is no event could not be passed on. If the reader of standard output has gone, no message is written to
+/// standard error.
+fn write_report(
     matches: &ArgMatches,
     input: &Input,
-    settings: Settings,
-    form: F,
+    options: Options,
+    slow: u64,
 ) -> Result<ExitCode, Failure> {
-    let Settings { options, slow } = settings;
-    let files = file_forms(matches, options);
-    let report = Report::with_file_names(form, files, slow, input.file_names());
+    let (format, files) = (format_of(matches, options), files_of(matches));
+    let report = Report::new(options, format, files, slow, input.file_names());
     let interrupt = catch_first_interrupt()?;
     let shows_progress = shows_progress(matches);
     let has_reader = shows_progress || io::stderr().is_terminal();
@@ -271,11 +250,11 @@ fn report_in<F: Form>(
     let Streams { output, others, .. } = streams;
     match (ended, output.into_writer().into_error()) {
         (Ok(ended), _) => {
-            write_files(matches, &ended.texts)?;
+            write_files(matches, &ended.files)?;
             let status = if others.has_failed() {
                 DEVICE_FAILED
             } else {
-                exit_status(ended.run.outcome, options.no_tests_pass)
+                ended.status
             };
             Ok(ExitCode::from(status))
         }
@@ -295,31 +274,26 @@ fn prepare(matches: &ArgMatches, input: &Input) -> Result<(), Failure> {
     check_output().map_err(|error| Failure::from(Fault::Write).caused_by(Some(error)))
 }
 
+/// Returns the form of standard output that the arguments ask for.
+fn format_of(matches: &ArgMatches, options: Options) -> Format {
+    let annotations = annotation_options(matches, options);
+    match value(matches, "format") {
+        "github" => Format::Github { annotations },
+        "names" => Format::Names,
+        "junit" => Format::Junit,
+        "html" => Format::Html,
+        "markdown" => Format::Markdown,
+        "json" => Format::Json,
+        _ if has_annotations(matches) => Format::Annotated { annotations },
+        _ => Format::Text,
+    }
+}
+
 /// Writes the report that the arguments ask for, and returns the exit status.
 fn report_of(matches: &ArgMatches, input: &Input) -> Result<ExitCode, Failure> {
-    let options = options_of(matches)?;
-    let settings = Settings {
-        options,
-        slow: slow_of(matches)?,
-    };
+    let (options, slow) = (options_of(matches)?, slow_of(matches)?);
     prepare(matches, input)?;
-    match value(matches, "format") {
-        "github" => {
-            let form = GithubForm::new(annotation_options(matches, options));
-            report_in(matches, input, settings, form)
-        }
-        "names" => report_in(matches, input, settings, NamesForm),
-        "junit" => report_in(matches, input, settings, JunitForm::new(options)),
-        "html" => report_in(matches, input, settings, HtmlForm::new(options)),
-        "markdown" => report_in(matches, input, settings, MarkdownForm::new(options)),
-        "json" => report_in(matches, input, settings, JsonForm::new(options)),
-        _ if has_annotations(matches) => {
-            let annotations = annotation_options(matches, options);
-            let form = AnnotatedForm::new(options, annotations);
-            report_in(matches, input, settings, form)
-        }
-        _ => report_in(matches, input, settings, TextForm::new(options)),
-    }
+    write_report(matches, input, options, slow)
 }
 
 /// Returns what `test-report` reads: the words after `--` are a command, and otherwise there are files.

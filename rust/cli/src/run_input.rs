@@ -5,17 +5,12 @@ use crate::interrupt::Interrupt;
 use crate::others::Others;
 use crate::output_files::STANDARD_INPUT;
 use crate::program::{DEVICE_FAILED, Failure};
-use crate::program_io::std_device::{StdSink, StdSource};
 use crate::progress_line::{LONGEST_PAUSE, Output, ProgressLine, StartTimes};
 use crate::reading::Reading;
+use crate::report::fault::Fault;
+use crate::report::{Ended, Report, progress_text};
 use crate::standard_streams::{StandardError, StandardInput};
-use crate::test_report_engine::fault::Fault;
-use crate::test_report_engine::pieces::Pieces;
-use crate::test_report_engine::progress::progress_text;
-use crate::test_report_engine::report::Report;
-use crate::test_report_forms::files::FileTexts;
-use crate::test_report_forms::form::Form;
-use crate::test_report_run_notes::note::RunEnd;
+use bstr::ByteSlice;
 use std::cell::RefCell;
 use std::collections::VecDeque;
 use std::ffi::OsString;
@@ -113,16 +108,12 @@ impl<'a, W: Write> Streams<'a, W> {
     }
 }
 
-/// The end of a run: its sums and its outcome, and the texts of the files that the arguments ask for.
-pub struct Ended {
-    pub run: RunEnd,
-    pub texts: FileTexts,
-}
-
 /// A report while its run is read.
-pub struct RunReader<'a, 'line, F: Form, W: Write> {
-    report: Report<F>,
-    pieces: Pieces,
+pub struct RunReader<'a, 'line, W: Write> {
+    report: Report,
+
+    /// The bytes of the current line that were read before.
+    begun: Vec<u8>,
     streams: &'a mut Streams<'line, W>,
     pass_on: PassOn,
     interrupt: Interrupt,
@@ -138,20 +129,20 @@ pub struct RunReader<'a, 'line, F: Form, W: Write> {
     message: Option<&'static str>,
 }
 
-impl<'a, 'line, F: Form, W: Write> RunReader<'a, 'line, F, W> {
+impl<'a, 'line, W: Write> RunReader<'a, 'line, W> {
     /// Returns a report that has read nothing. `shows_progress` is true if the line of progress is wanted, and
     /// `has_reader` if a message on standard error would be read.
     pub fn new(
-        report: Report<F>,
+        report: Report,
         streams: &'a mut Streams<'line, W>,
         pass_on: PassOn,
         interrupt: Interrupt,
         shows_progress: bool,
         has_reader: bool,
-    ) -> RunReader<'a, 'line, F, W> {
+    ) -> RunReader<'a, 'line, W> {
         RunReader {
             report,
-            pieces: Pieces::new(),
+            begun: Vec::new(),
             streams,
             pass_on,
             interrupt,
@@ -166,19 +157,19 @@ impl<'a, 'line, F: Form, W: Write> RunReader<'a, 'line, F, W> {
     ///
     /// Fails if a read or a write does.
     pub fn report(mut self, input: &Input) -> Result<Ended, Failure> {
-        match input {
+        let command = match input {
             Input::Files(files) => {
-                for path in files {
+                for (place, path) in files.iter().enumerate() {
+                    if place > 0 {
+                        self.report.end_file(&mut self.streams.output)?;
+                    }
                     self.read_file(path)?;
                 }
+                None
             }
-            Input::Command(words) => self.run_command(words)?,
-        }
-        let texts = self.report.file_texts()?;
-        let run = self
-            .report
-            .finish(&mut StdSink::new(&mut self.streams.output))?;
-        Ok(Ended { run, texts })
+            Input::Command(words) => Some(self.run_command(words)?),
+        };
+        Ok(self.report.finish(command, &mut self.streams.output)?)
     }
 
     /// Reads a file of the run.
@@ -201,10 +192,9 @@ impl<'a, 'line, F: Form, W: Write> RunReader<'a, 'line, F, W> {
         let reading = Reading::start(reader).map_err(unread)?;
         loop {
             if let Some(piece) = self.next_piece(&reading, None)? {
-                let is_end = piece.is_empty();
                 self.take_piece(&piece)?;
-                if is_end {
-                    return Ok(());
+                if piece.is_empty() {
+                    return Ok(self.end_line()?);
                 }
             }
             self.draw();
@@ -227,19 +217,19 @@ impl<'a, 'line, F: Form, W: Write> RunReader<'a, 'line, F, W> {
         Ok(piece)
     }
 
-    /// Passes a piece of a file to the report. An empty piece is the end of the file.
-    fn take_piece(&mut self, mut piece: &[u8]) -> Result<(), Fault> {
-        loop {
-            self.cancel_once();
-            let mut source = StdSource::new(&mut piece);
-            let mut sink = StdSink::new(&mut self.streams.output);
-            let mut others = StdSink::new(&mut self.streams.others);
-            self.report
-                .read_piece(&mut source, &mut self.pieces, &mut sink, &mut others)?;
-            if piece.is_empty() {
-                break;
-            }
+    /// Passes the lines that end in a piece of a file to the report.
+    fn take_piece(&mut self, piece: &[u8]) -> Result<(), Fault> {
+        self.cancel_once();
+        let mut line = std::mem::take(&mut self.begun);
+        let mut rest = piece;
+        while let Some(at) = rest.find_byte(b'\n') {
+            line.extend_from_slice(&rest[..at]);
+            self.take_line(&line)?;
+            line.clear();
+            rest = &rest[at + 1..];
         }
+        line.extend_from_slice(rest);
+        self.begun = line;
         if self.report.run().has_suite() {
             self.streams.others.repeated = Repeated::default();
             if self.shows_progress {
@@ -247,6 +237,22 @@ impl<'a, 'line, F: Form, W: Write> RunReader<'a, 'line, F, W> {
             }
         }
         Ok(())
+    }
+
+    /// Passes a line to the report.
+    fn take_line(&mut self, line: &[u8]) -> Result<(), Fault> {
+        let streams = &mut *self.streams;
+        self.report
+            .on_line(line, &mut streams.output, &mut streams.others)
+    }
+
+    /// Passes the rest of the last line to the report. It is a line unless it is empty.
+    fn end_line(&mut self) -> Result<(), Fault> {
+        let line = std::mem::take(&mut self.begun);
+        if line.is_empty() {
+            return Ok(());
+        }
+        self.take_line(&line)
     }
 
     /// Tells the report, once, why the run is cancelled, if a signal has come.

@@ -1,9 +1,9 @@
 //! Runs of a command, call by call: how its output and its end disagree.
 
-use deodarsieve_cli::test_report_events::line::Line;
-use deodarsieve_cli::test_report_run::run::TestRun;
-use deodarsieve_cli::test_report_run::suite_names::SuiteNames;
-use deodarsieve_cli::test_report_run_notes::note::{CargoReport, CommandEnd, Disagreement, Note};
+use deodarsieve_run::Line;
+use deodarsieve_run::SuiteNames;
+use deodarsieve_run::TestRun;
+use deodarsieve_run::{CargoReport, CommandEnd, Disagreement, Note};
 
 /// The time in microseconds from which on a test is slow.
 const SLOW: u64 = 60_000_000;
@@ -43,8 +43,7 @@ fn command_ends(output: &str, end: &CommandEnd) -> Vec<Disagreement> {
     let mut run = TestRun::new(SLOW);
     run.on_command_started(SuiteNames::new());
     pass_lines(&mut run, output);
-    run.on_command_ended(end);
-    disagreements(run.end_file().unwrap())
+    disagreements(run.finish(Some(end.clone()), false).unwrap().notes)
 }
 
 /// Asserts that the only disagreement is that a test program refused an option.
@@ -74,8 +73,8 @@ fn a_failure_of_cargo_waits_for_the_end_of_the_command() {
     run.on_command_started(SuiteNames::new());
     assert!(pass_lines(&mut run, REFUSED).is_empty());
     assert!(pass_lines(&mut run, "   Doc-tests a\n").is_empty());
-    run.on_command_ended(&CommandEnd::Status { code: 101 });
-    assert_refused(&disagreements(run.end_file().unwrap()));
+    let end = CommandEnd::Status { code: 101 };
+    assert_refused(&disagreements(run.finish(Some(end), false).unwrap().notes));
 }
 
 #[test]

@@ -29,6 +29,7 @@ fn programs() -> [(Command, Document); 3] {
             ("Repeated runs", "Repeated runs"),
             ("extract", "extract"),
         ],
+        is_proved: true,
     };
     let of_test_report = Document {
         path: "docs/TEST-REPORT.md",
@@ -39,6 +40,7 @@ fn programs() -> [(Command, Document); 3] {
             ("Contradictions", "Contradictions"),
             ("Forms", "Forms"),
         ],
+        is_proved: false,
     };
     let of_cargo_test_report = Document {
         sections: &[("Running the tests", "Running the tests")],
@@ -82,18 +84,12 @@ fn main() -> ExitCode {
 #[cfg(test)]
 mod tests {
     use super::*;
-    use std::collections::BTreeSet;
 
-    /// What `--help` of the proved programs prints.
-    const PROVED_DIGEST: &str = include_str!("../../../tools/help/run-digest.txt");
-    const PROVED_REPORT: &str = include_str!("../../../tools/help/test-report.txt");
+    /// What `./run-digest --help` prints. The proved program prints the same.
+    const DIGEST: &str = include_str!("../../../tools/help/run-digest.txt");
 
-    /// What `--help` of the plain `test-report` prints.
-    const PLAIN_REPORT: &str = include_str!("../../../tools/help/test-report-plain.txt");
-
-    /// What the plain `test-report` says of status 1, and the proved one does not.
-    const COMMAND_FAILS: &str =
-        "the command could not be started, ended by a signal, or failed and no line says why,";
+    /// What `./test-report --help` prints.
+    const REPORT: &str = include_str!("../../../tools/help/test-report.txt");
 
     /// Returns the words of a text, one a line.
     fn words_of(text: &str) -> String {
@@ -112,51 +108,18 @@ mod tests {
         )
     }
 
-    /// Returns the lines of a text that describe options.
-    fn options_in(text: &str) -> BTreeSet<String> {
-        let lines = text
-            .lines()
-            .filter(|line| line.trim_start().starts_with('-'));
-        lines.map(words_of).collect()
-    }
-
-    /// Returns what a text says of one exit status.
-    fn status_in(text: &str, number: u8) -> String {
-        let (_, statuses) = text
-            .split_once("\nExit status:\n")
-            .expect("there are statuses");
-        let statuses = words_of(statuses);
-        let (_, rest) = statuses
-            .split_once(&format!("{number}\n"))
-            .expect("it is there");
-        let end = rest.find(&format!("\n{}\n", number + 1));
-        rest[..end.unwrap_or(rest.len())].to_string()
-    }
-
     #[test]
     fn help_of_run_digest_is_that_of_the_proved_program() {
         let own = help_of(run_digest());
         // The plain program aborts if memory runs out.
         let beginning = own.strip_suffix("writing\nfailed\n").expect(&own);
         let last = words_of("writing failed, or there was not enough memory");
-        assert_eq!(beginning.to_owned() + &last, words_of(PROVED_DIGEST));
+        assert_eq!(beginning.to_owned() + &last, words_of(DIGEST));
     }
 
     #[test]
     fn the_stored_help_is_that_of_test_report() {
-        assert_eq!(help_of(test_report()), words_of(PLAIN_REPORT));
-    }
-
-    #[test]
-    fn the_proved_test_report_has_the_same_options_and_statuses() {
-        assert_eq!(options_in(PLAIN_REPORT), options_in(PROVED_REPORT));
-        for number in [0, 2] {
-            let own = status_in(PLAIN_REPORT, number);
-            assert_eq!(own, status_in(PROVED_REPORT, number));
-        }
-        // The plain program also runs a command.
-        let own = status_in(PLAIN_REPORT, 1).replace(&words_of(COMMAND_FAILS), "");
-        assert_eq!(own, status_in(PROVED_REPORT, 1));
+        assert_eq!(help_of(test_report()), words_of(REPORT));
     }
 
     #[test]

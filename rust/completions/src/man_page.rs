@@ -9,13 +9,8 @@ use clap::{Arg, Command};
 const EXAMPLES: &str = "Examples";
 const EXIT_STATUS: &str = "Exit status:";
 
-/// What `--help` of the plain program does not say, since it aborts then. The man page is that of the
-/// proved program.
+/// What the proved program does if memory runs out. The program that cargo builds aborts then.
 const OUT_OF_MEMORY: &str = "The status is also 3 if there was not enough memory.";
-
-/// What the proved program, which a release has, does not do.
-const NO_COMMAND: &str =
-    "The program of a release is proved, and reads files alone: it runs no COMMAND.";
 
 /// The document of a program.
 #[derive(Clone, Copy)]
@@ -26,6 +21,8 @@ pub struct Document {
     pub text: &'static str,
     /// The sections that the man page has, each with its heading there.
     pub sections: &'static [(&'static str, &'static str)],
+    /// Whether a release has the proved program.
+    pub is_proved: bool,
 }
 
 /// Returns the man page of a program. The error says which section the document lacks.
@@ -42,7 +39,7 @@ pub fn man_page(mut command: Command, document: &Document) -> Result<String, Str
     add_arguments(&mut page, &command);
     add_sections(&mut page, document)?;
     for paragraph in sections {
-        add_section_of_help(&mut page, paragraph);
+        add_section_of_help(&mut page, paragraph, document.is_proved);
     }
     Ok(page.into_roff())
 }
@@ -77,9 +74,6 @@ fn add_arguments(page: &mut Page, command: &Command) {
     let arguments = command.get_arguments();
     let (files, options): (Vec<_>, Vec<_>) = arguments.partition(|it| it.is_positional());
     add_list(page, "Arguments", &files);
-    if files.iter().any(|argument| argument.get_id() == "command") {
-        page.paragraph(NO_COMMAND);
-    }
     if command.has_subcommands() {
         page.section("Commands");
     }
@@ -145,11 +139,13 @@ fn is_section(paragraph: &&str) -> bool {
 }
 
 /// Adds the section that a paragraph of `--help` is.
-fn add_section_of_help(page: &mut Page, paragraph: &str) {
+fn add_section_of_help(page: &mut Page, paragraph: &str, is_proved: bool) {
     if let Some(statuses) = paragraph.strip_prefix(EXIT_STATUS) {
         page.section("Exit status");
         add_statuses(page, statuses);
-        page.paragraph(OUT_OF_MEMORY);
+        if is_proved {
+            page.paragraph(OUT_OF_MEMORY);
+        }
     } else {
         page.section("Examples");
         add_paragraph(page, paragraph);
@@ -186,6 +182,7 @@ mod tests {
         path: "docs/SOME.md",
         text: "# Some\n\n## How\n\nSo.\n\n## Why\n\nSo, too.\n",
         sections: &[("Why", "Reasons")],
+        is_proved: true,
     };
 
     const HELP: &str = "\
@@ -276,6 +273,16 @@ The status is also 3 if there was not enough memory.
     #[test]
     fn a_page_has_all_parts_in_order() {
         assert_eq!(man_page(program(), &DOCUMENT).as_deref(), Ok(PAGE));
+    }
+
+    #[test]
+    fn a_program_that_aborts_has_no_status_for_memory() {
+        let document = Document {
+            is_proved: false,
+            ..DOCUMENT
+        };
+        let (without, _) = PAGE.split_once(".PP\nThe status").expect("it is there");
+        assert_eq!(man_page(program(), &document).as_deref(), Ok(without));
     }
 
     #[test]

@@ -11,3 +11,4 @@ pub mod devices;
 pub mod fixtures;
 pub mod named;
 pub mod output_slice_tests;
+pub mod reports;

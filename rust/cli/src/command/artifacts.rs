@@ -3,7 +3,7 @@
 //! With `--message-format json-render-diagnostics`, cargo writes a JSON object for each program. The headings of
 //! `cargo test` have only the paths of the programs, so each name is found by a path.
 
-use crate::test_report_run::suite_names::SuiteNames;
+use deodarsieve_run::SuiteNames;
 use serde_json::Value;
 use std::io::{self, BufRead, BufReader, Read};
 use std::path::{Path, PathBuf};

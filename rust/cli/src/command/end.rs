@@ -1,6 +1,6 @@
 //! How a command ended.
 
-use crate::test_report_run_notes::note::CommandEnd;
+use deodarsieve_run::CommandEnd;
 use std::process::ExitStatus;
 
 /// Returns how a command with this status ended.

@@ -9,12 +9,9 @@ use crate::command::prepared::{Build, Prepared, prepare};
 use crate::command::repeated::Repeated;
 use crate::command::running::{LOOK, RunningCommand};
 use crate::program::{DEVICE_FAILED, Failure};
-use crate::program_io::std_device::StdSink;
 use crate::reading::Reading;
-use crate::test_report_engine::fault::Fault;
-use crate::test_report_forms::form::Form;
-use crate::test_report_run::suite_names::SuiteNames;
-use crate::test_report_run_notes::note::CommandEnd;
+use deodarsieve_run::CommandEnd;
+use deodarsieve_run::SuiteNames;
 use std::ffi::OsString;
 use std::io::{self, Write};
 use std::thread;
@@ -39,9 +36,9 @@ struct Built {
     end: CommandEnd,
 }
 
-impl<F: Form, W: Write> RunReader<'_, '_, F, W> {
-    /// Runs the command of the run, reads what it writes, and passes its end to the report.
-    pub(super) fn run_command(&mut self, words: &[OsString]) -> Result<(), Failure> {
+impl<W: Write> RunReader<'_, '_, W> {
+    /// Runs the command of the run, and reads what it writes. Returns how it ended.
+    pub(super) fn run_command(&mut self, words: &[OsString]) -> Result<CommandEnd, Failure> {
         self.streams.others.are_wanted = self.pass_on.of_command();
         self.message = self.message.map(|_| STILL_RUNNING);
         let prepared = prepare(words);
@@ -55,8 +52,9 @@ impl<F: Form, W: Write> RunReader<'_, '_, F, W> {
                 self.run(&prepared)?
             }
         };
-        self.end_command(&end)?;
-        Ok(())
+        self.cancel_once();
+        self.end_line()?;
+        Ok(end)
     }
 
     /// Builds the tests of a command and, if that succeeds, runs it. What the build writes is the beginning of the
@@ -185,15 +183,6 @@ impl<F: Form, W: Write> RunReader<'_, '_, F, W> {
             self.say_once();
             self.draw();
         }
-    }
-
-    /// Passes the end of the command to the report.
-    fn end_command(&mut self, end: &CommandEnd) -> Result<(), Fault> {
-        self.cancel_once();
-        let mut sink = StdSink::new(&mut self.streams.output);
-        let mut others = StdSink::new(&mut self.streams.others);
-        self.report
-            .end_command(end, &mut self.pieces, &mut sink, &mut others)
     }
 
     /// Sends SIGTERM on to a command. Ctrl-C on a terminal reaches the command by itself.

@@ -4,37 +4,14 @@ use crate::Row;
 use crate::inputs::{self, LOG, Output, pass_over, share};
 use crate::timing::Work;
 use bstr::ByteSlice;
-use deodarsieve::{FinalStatusLevel, StatusLevel, TestOutputDisplay};
 use deodarsieve_cli::program_io::std_device::{StdSink, StdSource};
+use deodarsieve_cli::report::{Files, Format};
 use deodarsieve_cli::run_digest_engine::count::count;
 use deodarsieve_cli::run_digest_engine::extract::extract;
-use deodarsieve_cli::test_report_engine::others::Nowhere;
-use deodarsieve_cli::test_report_engine::report::Report;
-use deodarsieve_cli::test_report_forms::files::FileForms;
-use deodarsieve_cli::test_report_forms::html::HtmlForm;
-use deodarsieve_cli::test_report_forms::junit::JunitForm;
-use deodarsieve_cli::test_report_forms::options::{Options, OutputDisplay};
-use deodarsieve_cli::test_report_forms::text::TextForm;
+use deodarsieve_tests::reports::{OPTIONS, new_report, write_report};
 use serde_json::Value;
 use std::hint::black_box;
 use std::rc::Rc;
-
-/// The time in microseconds from which on a test is slow.
-const SLOW: u64 = 60_000_000;
-
-const OPTIONS: Options = Options {
-    limit: 4_096,
-    output: OutputDisplay::Auto,
-    raw: false,
-    color: false,
-    status_level: StatusLevel::Fail,
-    final_status_level: FinalStatusLevel::Slow,
-    failure_output: TestOutputDisplay::Immediate,
-    success_output: TestOutputDisplay::Never,
-    passed_limit: usize::MAX,
-    slowest: 0,
-    no_tests_pass: false,
-};
 
 /// The number of blocks of a log that a failed test writes.
 const BLOCKS: usize = 80;
@@ -119,24 +96,19 @@ fn lines(event: &str, count: usize, more: impl Fn(usize) -> String) -> String {
 
 /// Returns the report of a run with these lines.
 fn reported(lines: String, expected: String) -> Work {
-    reported_with(FileForms::none, lines, expected)
+    reported_with(Files::default(), lines, expected)
 }
 
 /// Returns the report of a run with these lines, with the texts of files.
-fn reported_with(files: fn() -> FileForms, lines: String, expected: String) -> Work {
+fn reported_with(files: Files, lines: String, expected: String) -> Work {
     let lines: Rc<str> = lines.into();
     let read = Rc::clone(&lines);
     Work {
         call: Box::new(move || {
             let mut written = Vec::with_capacity(expected.len());
-            let mut source = StdSource::new(black_box(lines.as_bytes()));
-            let mut sink = StdSink::new(&mut written);
-            let mut report = Report::with_files(TextForm::new(OPTIONS), files(), SLOW);
-            report
-                .read_file(&mut source, &mut sink, &mut Nowhere::new())
-                .expect("the run is read");
-            black_box(report.file_texts().expect("the files have texts"));
-            report.finish(&mut sink).expect("the report ends");
+            let report = new_report(OPTIONS, Format::Text, files);
+            let end = write_report(report, black_box(lines.as_bytes()), &mut written);
+            black_box(end.expect("the report ends").files);
             assert!(written == expected.as_bytes());
         }),
         archived: None,
@@ -188,18 +160,16 @@ fn reported_failed(size: usize) -> Work {
     reported(lines("failed", count, more), expected)
 }
 
-/// The forms of the files that a run in CI writes.
-fn junit_and_html() -> FileForms {
-    FileForms {
-        junit: Some(JunitForm::new(OPTIONS)),
-        html: Some(HtmlForm::new(OPTIONS)),
-        markdown: None,
-        json: None,
-    }
-}
+/// The files that a run in CI writes.
+const JUNIT_AND_HTML: Files = Files {
+    junit: true,
+    html: true,
+    markdown: false,
+    json: false,
+};
 
 /// Returns the report of a run of which every hundredth test panics, with the texts of files.
-fn reported_mixed(size: usize, files: fn() -> FileForms) -> Work {
+fn reported_mixed(size: usize, files: Files) -> Work {
     const HEAD: &str = "panicked at src/pool.rs:41:9:";
     let count = share(size, 300_000);
     let failed: Vec<usize> = (0..count).step_by(100).collect();
@@ -245,8 +215,10 @@ pub fn rows() -> Vec<Row> {
         Row::new("engine-count", counted),
         Row::new("report-passed", reported_passed),
         Row::new("report-failed", reported_failed),
-        Row::new("report-mixed", |size| reported_mixed(size, FileForms::none))
-            .with_most_passes(1.3),
-        Row::new("report-files", |size| reported_mixed(size, junit_and_html)).with_most_passes(2.0),
+        Row::new("report-mixed", |size| {
+            reported_mixed(size, Files::default())
+        })
+        .with_most_passes(1.3),
+        Row::new("report-files", |size| reported_mixed(size, JUNIT_AND_HTML)).with_most_passes(2.0),
     ]
 }

@@ -1,44 +1,19 @@
 //! Reports of runs of megabytes, of a test with a megabyte of output, of 2,000 suites one after another, and of
 //! 20,000 suites and 20,000 tests that run at once.
 
-use deodarsieve::{FinalStatusLevel, StatusLevel, TestOutputDisplay};
-use deodarsieve_cli::program_io::memory_device::{MemorySink, MemorySource};
-use deodarsieve_cli::test_report_engine::others::Nowhere;
-use deodarsieve_cli::test_report_engine::report::Report;
-use deodarsieve_cli::test_report_forms::options::{Options, OutputDisplay};
-use deodarsieve_cli::test_report_forms::text::TextForm;
+use deodarsieve_cli::report::{Files, Format};
+use deodarsieve_tests::reports::{OPTIONS, new_report, write_report};
 use std::fmt::Write;
 
-/// The time in microseconds from which on a test is slow.
-const SLOW: u64 = 60_000_000;
-
 /// The greatest number of bytes that are shown of the explanation of a failure.
-const LIMIT: usize = 4_096;
+const LIMIT: usize = OPTIONS.limit;
 
-/// Returns the report of a run. It must have at most a million bytes.
+/// Returns the report of a run.
 fn reported(input: &str) -> String {
-    let form = TextForm::new(Options {
-        limit: LIMIT,
-        output: OutputDisplay::Auto,
-        raw: false,
-        color: false,
-        status_level: StatusLevel::Fail,
-        final_status_level: FinalStatusLevel::Slow,
-        failure_output: TestOutputDisplay::Immediate,
-        success_output: TestOutputDisplay::Never,
-        passed_limit: usize::MAX,
-        slowest: 0,
-        no_tests_pass: false,
-    });
-    let mut buffer = vec![0; 1_000_000];
-    let mut source = MemorySource::new(input.as_bytes(), None);
-    let mut sink = MemorySink::new(&mut buffer, None);
-    let mut report = Report::new(form, SLOW);
-    report
-        .read_file(&mut source, &mut sink, &mut Nowhere::new())
-        .expect("the run is read");
-    report.finish(&mut sink).expect("the report ends");
-    String::from_utf8(sink.written().to_vec()).expect("the report is UTF-8")
+    let mut written = Vec::new();
+    let report = new_report(OPTIONS, Format::Text, Files::default());
+    write_report(report, input.as_bytes(), &mut written).expect("the numbers fit");
+    String::from_utf8(written).expect("the report is UTF-8")
 }
 
 /// Returns a summary of tests without times that all ran, none of which is flaky, timed out or crashed.

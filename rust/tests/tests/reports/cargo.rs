@@ -1,14 +1,8 @@
 //! What explains a failure of cargo.
 
-use crate::{OPTIONS, reported};
-use deodarsieve_cli::test_report_forms::form::Form;
-use deodarsieve_cli::test_report_forms::github::GithubForm;
-use deodarsieve_cli::test_report_forms::html::HtmlForm;
-use deodarsieve_cli::test_report_forms::json_form::JsonForm;
-use deodarsieve_cli::test_report_forms::junit::JunitForm;
-use deodarsieve_cli::test_report_forms::markdown::MarkdownForm;
-use deodarsieve_cli::test_report_forms::options::Options;
-use deodarsieve_cli::test_report_forms::text::TextForm;
+use crate::{GITHUB, OPTIONS, reported};
+use deodarsieve_cli::report::Format;
+use deodarsieve_cli::report::options::Options;
 
 /// The output of a command that does not compile. A terminal does not show the escape.
 const BROKEN: &str = "   Compiling a v0.1.0\n\
@@ -16,37 +10,37 @@ const BROKEN: &str = "   Compiling a v0.1.0\n\
     error: could not compile `a` (lib) due to 1 previous error\n";
 
 /// Checks that the report of `BROKEN` in a form has this part.
-fn has<F: Form>(form: F, part: &str) {
-    let (text, _) = reported(form, &[BROKEN]);
+fn has(format: Format, part: &str) {
+    let (text, _) = reported(OPTIONS, format, &[BROKEN]);
     assert!(text.contains(part), "{text}");
 }
 
 #[test]
 fn each_form_has_what_the_compiler_said() {
     has(
-        TextForm::new(OPTIONS),
+        Format::Text,
         "cargo: error: could not compile `a` (lib) due to 1 previous error\n    \
          error[E0308]: <T>\n      --> src/lib.rs:1:2\n------------\n",
     );
     has(
-        GithubForm::new(OPTIONS),
+        GITHUB,
         "::error::cargo: error: could not compile `a` (lib) due to 1 previous error%0A\
          error[E0308]: <T>%0A  --> src/lib.rs:1:2\n::notice::",
     );
     has(
-        JunitForm::new(OPTIONS),
+        Format::Junit,
         " type=\"disagreement\">error[E0308]: &lt;T&gt;\n  --&gt; src/lib.rs:1:2</error>",
     );
     has(
-        HtmlForm::new(OPTIONS),
+        Format::Html,
         " due to 1 previous error<pre><code>error[E0308]: &lt;T&gt;\n  --&gt; src/lib.rs:1:2</code></pre></li>",
     );
     has(
-        MarkdownForm::new(OPTIONS),
+        Format::Markdown,
         " due to 1 previous error\n\n<pre>\nerror[E0308]: &lt;T&gt;\n  --&gt; src/lib.rs:1:2</pre>\n\n",
     );
     has(
-        JsonForm::new(OPTIONS),
+        Format::Json,
         "\"why\":\"error[E0308]: <T>\\n  --> src/lib.rs:1:2\"",
     );
 }
@@ -63,7 +57,7 @@ fn explains(before: &str, after: &str, why: &str) {
         limit: 1,
         ..OPTIONS
     };
-    let (text, _) = reported(TextForm::new(options), &[&lines]);
+    let (text, _) = reported(options, Format::Text, &[&lines]);
     let wanted =
         format!("cargo: error: test failed, to rerun pass `--lib`\n{why}{ADVICE}------------\n");
     assert!(text.starts_with(&wanted), "{text}");
@@ -99,7 +93,7 @@ fn only_the_first_failure_before_all_events_has_the_advice() {
     let suite = "{\"type\":\"suite\",\"event\":\"started\",\"test_count\":0}\n\
         {\"type\":\"suite\",\"event\":\"ok\",\"passed\":0,\"failed\":0}\n";
     let written = |files: &[&str]| {
-        let (text, _) = reported(TextForm::new(OPTIONS), files);
+        let (text, _) = reported(OPTIONS, Format::Text, files);
         let (before, _) = text.split_once("------------\n").expect("a summary");
         before.to_owned()
     };

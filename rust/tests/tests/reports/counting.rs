@@ -1,8 +1,7 @@
 //! The suite of a test, how tests count, and lines that contradict each other.
 
 use crate::{Case, OPTIONS, assert_reports, reported};
-use deodarsieve_cli::test_report_forms::names::NamesForm;
-use deodarsieve_cli::test_report_forms::text::TextForm;
+use deodarsieve_cli::report::Format;
 
 #[test]
 fn ends_without_a_start() {
@@ -167,9 +166,9 @@ fn several_files() {
         cargo: error: test failed, to rerun pass `--lib`\n------------\n     \
         Summary 2 tests run: 1 passed (0 flaky), 1 failed (0 timed out, 1 crashed), 0 skipped, 1 not run\n       \
         CRASH a (unittests src/lib.rs) x: its process ended before it did\noutcome failed\n";
-    let (text, _) = reported(TextForm::new(OPTIONS), &[first, second]);
+    let (text, _) = reported(OPTIONS, Format::Text, &[first, second]);
     assert_eq!(text, wanted);
-    assert_eq!(reported(NamesForm, &[first, second]).0, "x\n");
+    assert_eq!(reported(OPTIONS, Format::Names, &[first, second]).0, "x\n");
 }
 
 #[test]
@@ -182,8 +181,8 @@ fn a_sum_of_times_that_does_not_fit() {
         ));
     }
     lines.push_str("{\"type\":\"test\",\"event\":\"failed\",\"name\":\"real\",\"exec_time\":1}\n");
-    assert_eq!(reported(NamesForm, &[&lines]).0, "real\n");
-    let (text, _) = reported(TextForm::new(OPTIONS), &[&lines, &lines]);
+    assert_eq!(reported(OPTIONS, Format::Names, &[&lines]).0, "real\n");
+    let (text, _) = reported(OPTIONS, Format::Text, &[&lines, &lines]);
     let summary = "     Summary [18446744073709.551s] 36898 tests run: \
         36896 passed (0 flaky, 36896 slow), 2 failed ";
     assert!(text.contains(summary), "{text}");

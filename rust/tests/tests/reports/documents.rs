@@ -1,8 +1,7 @@
 //! What the page and the summary of a workflow show of a run.
 
 use crate::{OPTIONS, reported};
-use deodarsieve_cli::test_report_forms::html::HtmlForm;
-use deodarsieve_cli::test_report_forms::markdown::MarkdownForm;
+use deodarsieve_cli::report::Format;
 
 /// A suite with one test that passes and two that are skipped. One of the skipped tests has a reason.
 const SKIPPED: &str = r#"{"type":"suite","event":"started","test_count":3}
@@ -31,7 +30,7 @@ fn timed_run(count: usize) -> String {
 
 /// Returns the numbers of the slow tests that the page lists.
 fn listed_times(count: usize) -> Vec<usize> {
-    let (page, _) = reported(HtmlForm::new(OPTIONS), &[&timed_run(count)]);
+    let (page, _) = reported(OPTIONS, Format::Html, &[&timed_run(count)]);
     page.lines()
         .filter_map(|line| {
             line.strip_prefix("<tr><th scope=\"row\">suite 1 t")?
@@ -58,14 +57,14 @@ fn the_page_lists_the_ten_slowest_tests() {
 
 #[test]
 fn the_page_ends_with_the_skipped_tests_that_have_a_reason() {
-    let (page, _) = reported(HtmlForm::new(OPTIONS), &[SKIPPED]);
+    let (page, _) = reported(OPTIONS, Format::Html, &[SKIPPED]);
     let wanted = "</section>\n<section>\n<h2>Skipped tests</h2>\n<table>\n\
                   <thead><tr><th scope=\"col\">Test</th><th scope=\"col\">Reason</th></tr></thead>\n<tbody>\n\
                   <tr><th scope=\"row\">suite 1 asks_the_bank</th><td class=\"reason\">needs \"a bank\"\nand a &lt;network&gt;</td></tr>\n\
                   </tbody>\n</table>\n</section>\n</main>\n</body>\n</html>\n";
     assert!(page.ends_with(wanted), "{page}");
     let without = SKIPPED.replace(r#","message":"needs \"a bank\"\r\nand a <network>""#, "");
-    let (page, _) = reported(HtmlForm::new(OPTIONS), &[&without]);
+    let (page, _) = reported(OPTIONS, Format::Html, &[&without]);
     assert!(!page.contains("Skipped tests"), "{page}");
 }
 
@@ -83,7 +82,7 @@ const MENTIONS: &str = r#"     Running tests/a@b.rs (target/debug/deps/a-46e3cc0
 
 #[test]
 fn a_summary_has_texts_with_an_at_sign_as_code() {
-    let (summary, _) = reported(MarkdownForm::new(OPTIONS), &[MENTIONS]);
+    let (summary, _) = reported(OPTIONS, Format::Markdown, &[MENTIONS]);
     let suite = "<code>a &#40;tests&#47;a&#64;b&#46;rs&#41;</code>";
     let test = "<code>asks&#64;home</code>";
     for wanted in [
@@ -99,35 +98,39 @@ fn a_summary_has_texts_with_an_at_sign_as_code() {
     }
 }
 
-/// Returns the summary of a run with this number of failed tests. Each has a message of 3,000 bytes.
-fn long_summary(count: usize) -> String {
+/// Returns the summary of a run with this number of failed tests, each with a message of this number of bytes.
+fn long_summary(count: usize, size: usize) -> String {
     let mut lines =
         format!("{{\"type\":\"suite\",\"event\":\"started\",\"test_count\":{count}}}\n");
     for number in 1..=count {
         let name = format!("\"name\":\"t{number:03}\"");
-        let message = "m".repeat(3_000);
+        let message = "m".repeat(size);
         lines += &format!(
             "{{\"type\":\"test\",\"event\":\"started\",{name}}}\n\
              {{\"type\":\"test\",\"event\":\"failed\",{name},\"message\":\"{message}\"}}\n"
         );
     }
     lines += "{\"type\":\"suite\",\"event\":\"failed\"}\n";
-    reported(MarkdownForm::new(OPTIONS), &[&lines]).0
+    reported(OPTIONS, Format::Markdown, &[&lines]).0
+}
+
+/// Returns the number of bytes that a failed test with a message of this number of bytes has in the summary.
+fn size_in_summary(size: usize) -> usize {
+    let one = long_summary(1, size);
+    let row = one.find("| FAIL").expect("there is a row");
+    one.len() - row - 1
 }
 
 #[test]
 fn a_summary_ends_after_900_000_bytes_of_failed_tests() {
-    let one = long_summary(1);
-    let row = one.find("| FAIL").expect("there is a row");
-    let size = one.len() - row - 1;
-    let most = 900_000_usize.div_ceil(size);
+    let most = 900_000_usize.div_ceil(size_in_summary(3_000));
     for (count, shown) in [
         (most - 1, most - 1),
         (most, most),
         (most + 1, most),
         (400, most),
     ] {
-        let summary = long_summary(count);
+        let summary = long_summary(count, 3_000);
         assert_eq!(summary.matches("\n| FAIL | suite 1 t").count(), shown);
         assert_eq!(
             summary
@@ -143,4 +146,18 @@ fn a_summary_ends_after_900_000_bytes_of_failed_tests() {
         assert_eq!(summary.ends_with(&last), count > shown);
         assert_eq!(summary.contains("more failed tests"), count > shown);
     }
+}
+
+#[test]
+fn a_summary_has_another_failed_test_if_less_than_100_bytes_are_left() {
+    // Each byte of the message is in the row and in the details.
+    let more = size_in_summary(3_000) - 2 * 3_000;
+    let (size, fitting) = (2_000..4_000)
+        .map(|size| (size, 900_000 / (more + 2 * size)))
+        .find(|(size, fitting)| (1..100).contains(&(900_000 - fitting * (more + 2 * size))))
+        .expect("a message leaves a few bytes");
+    let summary = long_summary(fitting + 2, size);
+    let rows = summary.matches("\n| FAIL | suite 1 t").count();
+    assert_eq!(rows, fitting + 1);
+    assert!(summary.ends_with("\n(1 more failed tests: a summary on GitHub holds 1 MiB)\n"));
 }

@@ -1,12 +1,12 @@
 //! Which tests the levels show, when the tests end and in the list at the end.
 
 use crate::{OPTIONS, reported};
-use deodarsieve::{FinalStatusLevel, StatusLevel, TestOutputDisplay};
-use deodarsieve_cli::test_report_forms::html::HtmlForm;
-use deodarsieve_cli::test_report_forms::json_form::JsonForm;
-use deodarsieve_cli::test_report_forms::markdown::MarkdownForm;
-use deodarsieve_cli::test_report_forms::options::Options;
-use deodarsieve_cli::test_report_forms::text::TextForm;
+use deodarsieve::{CancelReason, FinalStatusLevel, StatusLevel, TestOutputDisplay};
+use deodarsieve_cli::report::options::Options;
+use deodarsieve_cli::report::{Files, Format};
+use deodarsieve_run::{CommandEnd, SuiteNames};
+use deodarsieve_tests::reports::new_report;
+use std::io;
 
 /// A test that passed, a flaky one, a skipped one and a failed one, each later one slower.
 const RUN: &str = r#"{"type":"suite","event":"started","test_count":4}
@@ -28,7 +28,7 @@ const FLAKY: &str = "FLAKY 3/3 [   0.002s] suite 1 flaky\n";
 
 /// Returns the lines before the rule, and the list after the summary, of the report of the run.
 fn parts(options: Options) -> (String, String) {
-    let (text, succeeds) = reported(TextForm::new(options), &[RUN]);
+    let (text, succeeds) = reported(options, Format::Text, &[RUN]);
     assert!(!succeeds);
     let (lines, end) = text
         .split_once("------------\n")
@@ -187,16 +187,113 @@ fn slow_tests_have_a_level_and_a_number() {
         FAIL suite 1 failed: why\n\
         outcome failed\n";
     assert_eq!(
-        reported(TextForm::new(options), &[SLOW_RUN]).0.as_str(),
+        reported(options, Format::Text, &[SLOW_RUN]).0.as_str(),
         wanted
     );
     let numbers = "4 passed (1 flaky, 3 slow), 1 failed";
     for text in [
-        reported(HtmlForm::new(OPTIONS), &[SLOW_RUN]).0,
-        reported(MarkdownForm::new(OPTIONS), &[SLOW_RUN]).0,
+        reported(OPTIONS, Format::Html, &[SLOW_RUN]).0,
+        reported(OPTIONS, Format::Markdown, &[SLOW_RUN]).0,
     ] {
         assert!(text.contains(numbers), "{text}");
     }
-    let json = reported(JsonForm::new(OPTIONS), &[SLOW_RUN]).0;
+    let json = reported(OPTIONS, Format::Json, &[SLOW_RUN]).0;
     assert!(json.contains("\"slow\":3"), "{json}");
+}
+
+/// Options that show all tests when they end and in the list, with what they wrote in both places.
+const ALL_TWICE: Options = Options {
+    status_level: StatusLevel::All,
+    final_status_level: FinalStatusLevel::All,
+    failure_output: TestOutputDisplay::ImmediateFinal,
+    success_output: TestOutputDisplay::ImmediateFinal,
+    slowest: 1,
+    ..OPTIONS
+};
+
+/// Returns the report of a run of which this becomes known: a test fails, one passes, one is skipped, and one is flaky.
+/// The run is cancelled after its second test started.
+fn cancelled(reason: CancelReason) -> String {
+    let lines = r#"{"type":"suite","event":"started","test_count":5}
+{"type":"test","event":"started","name":"early"}
+{"type":"test","event":"failed","name":"early","message":"why"}
+{"type":"test","event":"started","name":"failed"}
+{"type":"test","event":"failed","name":"failed","message":"why","exec_time":0.004}
+{"type":"test","event":"started","name":"passed"}
+{"type":"test","event":"ok","name":"passed","stdout":"said\n"}
+{"type":"test","event":"ignored","name":"skipped"}
+{"type":"test","event":"started","name":"flaky"}
+{"type":"test","event":"ok","name":"flaky#2"}
+{"type":"suite","event":"failed"}"#;
+    let mut report = new_report(ALL_TWICE, Format::Text, Files::default());
+    let mut written = Vec::new();
+    for (number, line) in lines.lines().enumerate() {
+        if number == 4 {
+            report.cancel(reason);
+        }
+        report
+            .on_line(line.as_bytes(), &mut written, &mut io::sink())
+            .expect("the numbers fit");
+    }
+    report.finish(None, &mut written).expect("the report ends");
+    String::from_utf8(written).expect("the report is UTF-8")
+}
+
+/// The summary of a cancelled run.
+const CANCELLED: &str = "------------\n     \
+    Summary [   0.004s] 4 tests run: 2 passed (1 flaky), 2 failed (0 timed out, 0 crashed), 1 skipped, 0 not run\n";
+
+#[test]
+fn after_an_interrupt_tests_have_only_their_lines() {
+    let wanted = format!(
+        "FAIL suite 1 early\n    why\n\
+         FAIL [   0.004s] suite 1 failed\n\
+         PASS suite 1 passed\n\
+         SKIP suite 1 skipped\n\
+         FLAKY 2/2 suite 1 flaky\n\
+         {CANCELLED}        \
+         FAIL suite 1 early: why\n             why\n     \
+         SLOWEST [   0.004s] suite 1 failed\n\
+         outcome failed\n"
+    );
+    assert_eq!(cancelled(CancelReason::Interrupt), wanted);
+}
+
+#[test]
+fn after_a_signal_what_was_shown_is_not_shown_again() {
+    let wanted = format!(
+        "FAIL suite 1 early\n    why\n\
+         FAIL [   0.004s] suite 1 failed\n    why\n\
+         PASS suite 1 passed\n    said\n\
+         SKIP suite 1 skipped\n\
+         FLAKY 2/2 suite 1 flaky\n\
+         {CANCELLED}        \
+         PASS suite 1 passed\n        \
+         SKIP suite 1 skipped\n   \
+         FLAKY 2/2 suite 1 flaky\n        \
+         FAIL suite 1 early: why\n             why\n        \
+         FAIL [   0.004s] suite 1 failed: why\n     \
+         SLOWEST [   0.004s] suite 1 failed\n\
+         outcome failed\n"
+    );
+    assert_eq!(cancelled(CancelReason::Signal), wanted);
+}
+
+#[test]
+fn a_command_is_not_cancelled_when_it_starts() {
+    let mut report = new_report(ALL_TWICE, Format::Text, Files::default());
+    let mut written = Vec::new();
+    report.start_command(SuiteNames::new());
+    for line in RUN.lines() {
+        report
+            .on_line(line.as_bytes(), &mut written, &mut io::sink())
+            .expect("the numbers fit");
+    }
+    let end = CommandEnd::Status { code: 101 };
+    report
+        .finish(Some(end), &mut written)
+        .expect("the report ends");
+    let text = String::from_utf8(written).expect("the report is UTF-8");
+    assert_eq!(text, reported(ALL_TWICE, Format::Text, &[RUN]).0);
+    assert_eq!(text.matches(" why\n").count(), 3, "{text}");
 }

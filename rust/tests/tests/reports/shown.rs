@@ -2,8 +2,8 @@
 
 use crate::{Case, OPTIONS, assert_reports, assert_reports_with, reported};
 use deodarsieve::TestOutputDisplay;
-use deodarsieve_cli::test_report_forms::options::{Options, OutputDisplay};
-use deodarsieve_cli::test_report_forms::text::TextForm;
+use deodarsieve_cli::report::Format;
+use deodarsieve_cli::report::options::{Options, OutputDisplay};
 
 /// A failed test with an explanation of nine bytes: a character of two bytes, an escape and three
 /// letters after it, and a character of three bytes.
@@ -45,7 +45,7 @@ fn a_limit_cuts_before_a_character() {
              Summary 1 tests run: 0 passed (0 flaky), 1 failed (0 timed out, 0 crashed), 0 skipped, 0 not run\n        \
              FAIL suite 1 a: {shown}\noutcome failed\n"
         );
-        let (text, _) = reported(TextForm::new(options), &[RUN]);
+        let (text, _) = reported(options, Format::Text, &[RUN]);
         assert_eq!(text, wanted, "{options:?}");
     }
 }
@@ -56,9 +56,9 @@ fn colours_are_around_the_words_for_results() {
         color: true,
         ..OPTIONS
     };
-    let (text, _) = reported(TextForm::new(options), &[RUN]);
+    let (text, _) = reported(options, Format::Text, &[RUN]);
     let plain = text.replace("\u{1b}[1;31mFAIL\u{1b}[0m", "FAIL");
-    assert_eq!(plain, reported(TextForm::new(OPTIONS), &[RUN]).0);
+    assert_eq!(plain, reported(OPTIONS, Format::Text, &[RUN]).0);
     assert_ne!(plain, text);
 }
 

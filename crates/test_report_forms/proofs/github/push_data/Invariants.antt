@@ -1,7 +1,0 @@
-use Rattle.std.proofs.Common.{◌≡◌, ◌++◌, string_bytes}
-use Rattle.std.specs.List.{flat_map}
-use Rattle.test_report_forms.specs.Github.{data_char}
-use Rattle.test_report_forms.proofs.github.push_data.Given as goal
-
-abbrev pub invariant-loop-c : goal.invariant-loop-c
-invariant-loop-c l = string_bytes l.text ≡ string_bytes l.initial.text ++ flat_map data_char l.yielded

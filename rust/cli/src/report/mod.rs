@@ -1,0 +1,367 @@
+//! The report of a test run: what is shown of it, and in which form.
+//!
+//! A [`Report`] takes the lines of a run, and writes to standard output what they make known. [`Report::finish`] writes
+//! the end, and returns the texts of the files. The run decides what a line means ([`deodarsieve_run`]). Here is only how
+//! that is shown:
+//!
+//! | from | by | to |
+//! |---|---|---|
+//! | a note of the run | `entry`, with `failure` (why a test failed) and `problem` | an entry, which all forms take |
+//! | entries | `text`, `annotations` | text, through the proved type `ReportText` |
+//! | entries | `model` | one model of the finished report, which is JSON by its derives |
+//! | the model | `values`, `junit` | a page, a summary and JUnit's XML, through the proved templates |
+//!
+//! `output` has the only types that standard output takes. `escape` shows control characters as escapes such as
+//! `\u{1b}`, and so does the type `ReportText` with what was not escaped before.
+
+mod annotations;
+mod entry;
+mod escape;
+#[cfg(test)]
+mod escape_tests;
+mod explanation;
+mod failure;
+pub mod fault;
+mod junit;
+mod levels;
+mod lines;
+mod model;
+mod numbers;
+pub mod options;
+mod output;
+mod place;
+mod problem;
+mod short;
+mod slowest;
+mod text;
+mod values;
+mod whole_output;
+mod words;
+
+use crate::report::annotations::{Annotation, push_failed_name, push_notice};
+use crate::report::entry::Entry;
+use crate::report::fault::Fault;
+use crate::report::model::{ModelBuilder, ReportModel, Wanted};
+use crate::report::options::Options;
+use crate::report::output::Text;
+use crate::report::text::TextForm;
+use crate::report::values::{page, summary};
+use deodarsieve::CancelReason;
+use deodarsieve_run::{
+    CommandEnd, Disagreement, Finished, Line, Note, RunEnd, SuiteNames, TestRun,
+};
+use std::collections::VecDeque;
+use std::io::{self, Write};
+
+pub use crate::report::output::{Document, Json};
+pub use crate::report::words::progress_text;
+
+/// The form of a report on standard output.
+#[derive(Clone, Copy, Debug, PartialEq, Eq)]
+pub enum Format {
+    /// Text for people.
+    Text,
+
+    /// Text for people, with annotations of GitHub after the texts of a line of the run.
+    Annotated {
+        /// The options of the annotations, of which only `limit` and `output` are used.
+        annotations: Options,
+    },
+
+    /// Annotations of GitHub.
+    Github {
+        /// Their options, of which only `limit` and `output` are used.
+        annotations: Options,
+    },
+
+    /// The names of failed tests.
+    Names,
+
+    /// JUnit's XML.
+    Junit,
+
+    /// A page of HTML.
+    Html,
+
+    /// A summary in Markdown.
+    Markdown,
+
+    /// One line of JSON.
+    Json,
+}
+
+/// Which files are written.
+#[derive(Clone, Copy, Debug, Default, PartialEq, Eq)]
+pub struct Files {
+    pub junit: bool,
+    pub html: bool,
+    pub markdown: bool,
+    pub json: bool,
+}
+
+/// The texts of the files. A text is absent if its file is not written.
+#[derive(Default)]
+pub struct FileTexts {
+    pub junit: Option<Document>,
+    pub html: Option<Document>,
+    pub markdown: Option<Document>,
+    pub json: Option<Json>,
+}
+
+/// The end of a report.
+pub struct Ended {
+    /// The sums and the outcome of the run.
+    pub run: RunEnd,
+
+    /// The exit status of the run.
+    pub status: u8,
+
+    /// The texts of the files.
+    pub files: FileTexts,
+}
+
+/// A report, which is written while its run is read.
+pub struct Report {
+    run: TestRun,
+    options: Options,
+    format: Format,
+    files: Files,
+
+    /// The text that is not written yet.
+    text: Text,
+
+    /// What the text has at its end, if the format has it.
+    form: Option<TextForm>,
+
+    /// What documents and JSON have, if there are any.
+    model: Option<ModelBuilder>,
+}
+
+impl Report {
+    /// Returns a report that has read and written nothing. A test whose time is at least `slow` microseconds is slow.
+    /// `file_names` are the names of the files of the run in their order, if it has several.
+    pub fn new(
+        options: Options,
+        format: Format,
+        files: Files,
+        slow: u64,
+        file_names: VecDeque<String>,
+    ) -> Report {
+        let has_text = matches!(format, Format::Text | Format::Annotated { .. });
+        let wanted = Wanted {
+            all_tests: files.junit || files.json || matches!(format, Format::Junit | Format::Json),
+            page: files.html || format == Format::Html,
+            summary: files.markdown || format == Format::Markdown,
+        };
+        let has_model = wanted.all_tests || wanted.page || wanted.summary;
+        Report {
+            run: TestRun::with_file_names(slow, file_names),
+            options,
+            format,
+            files,
+            text: Text::new(options.raw && has_text),
+            form: has_text.then(|| TextForm::new(options)),
+            model: has_model.then(|| ModelBuilder::new(options, wanted)),
+        }
+    }
+
+    /// Returns the run, up to the line that was taken last.
+    pub fn run(&self) -> &TestRun {
+        &self.run
+    }
+
+    /// Notes that the output of a command is read next. Call it before the first line of the output, and
+    /// `finish` after the last one. If `names` has a name for the path in a heading, the suites after the heading have this name.
+    pub fn start_command(&mut self, names: SuiteNames) {
+        self.run.on_command_started(names);
+    }
+
+    /// Notes that the run is cancelled for this reason. Of the tests that become known from now on, the text shows as
+    /// much as the levels of the layer show for this reason.
+    pub fn cancel(&mut self, reason: CancelReason) {
+        self.run.on_cancelled(reason);
+    }
+
+    /// Takes a line of the run, without its line feed, and writes what it makes known. What of the line is no event is
+    /// first written to `others`, with a line feed. If `others` fails, the report is the same.
+    ///
+    /// Fails if `output` does, or if a number of the run does not fit.
+    pub fn on_line(
+        &mut self,
+        bytes: &[u8],
+        output: &mut impl Write,
+        others: &mut impl Write,
+    ) -> Result<(), Fault> {
+        let notes = self.notes_of(bytes, others)?;
+        self.show(&notes, output)
+    }
+
+    /// Takes a line, and returns what it makes known, in the order of a report.
+    fn notes_of(&mut self, bytes: &[u8], others: &mut impl Write) -> Result<Vec<Note>, Fault> {
+        let line = Line::read(bytes);
+        if let Some(size) = line.rest() {
+            let mut rest = bytes[..size].to_vec();
+            rest.push(b'\n');
+            // The writer remembers a failure.
+            let _ = others.write_all(&rest);
+        }
+        let mut notes = self.run.on_line(&line)?;
+        notes.sort_by_key(comes_last);
+        Ok(notes)
+    }
+
+    /// Takes the end of a file of the run that is not the last one, and writes what it makes known.
+    ///
+    /// Fails if `output` does, or if a number of the run does not fit.
+    pub fn end_file(&mut self, output: &mut impl Write) -> Result<(), Fault> {
+        let notes = self.run.end_file()?;
+        self.show_parts(&notes, output)
+    }
+
+    /// Takes the end of the last file, and how the command ended if its output was read. Writes what this makes known, and
+    /// the end of the report.
+    ///
+    /// Fails if `output` does, or if a number of the run does not fit.
+    pub fn finish(
+        mut self,
+        command: Option<CommandEnd>,
+        output: &mut impl Write,
+    ) -> Result<Ended, Fault> {
+        let Finished { notes, end, status } =
+            self.run.finish(command, self.options.no_tests_pass)?;
+        self.show_parts(&notes, output)?;
+        let mut texts = self.form.map(|form| form.on_end(&end)).unwrap_or_default();
+        if matches!(
+            self.format,
+            Format::Annotated { .. } | Format::Github { .. }
+        ) {
+            let mut notice = Text::new(false);
+            push_notice(&end, &mut notice);
+            texts.push(notice);
+        }
+        write_texts(&mut texts, output)?;
+        let mut files = FileTexts::default();
+        if let Some(model) = self.model {
+            files = FileTexts::of(model.finish(&end), self.files, self.format, self.options);
+            files.write_to(self.format, output)?;
+        }
+        output.flush()?;
+        Ok(Ended {
+            run: end,
+            status,
+            files,
+        })
+    }
+
+    /// Writes what the end of a file makes known, part after part.
+    fn show_parts(&mut self, notes: &[Note], output: &mut impl Write) -> Result<(), Fault> {
+        for part in notes.split_inclusive(ends_part) {
+            self.show(part, output)?;
+        }
+        Ok(())
+    }
+
+    /// Writes what notes make known at once, and flushes the output if there is something: the text of each note, and
+    /// then their annotations.
+    fn show(&mut self, notes: &[Note], output: &mut impl Write) -> Result<(), Fault> {
+        let mut annotations = Vec::new();
+        for note in notes {
+            let entry = Entry::of(note, self.options);
+            if let Some(model) = &mut self.model {
+                model.on_entry(&entry);
+            }
+            if let Some(form) = &mut self.form {
+                form.on_entry(&entry, &mut self.text);
+            }
+            match self.format {
+                Format::Annotated { annotations: own } | Format::Github { annotations: own } => {
+                    annotations.extend(Annotation::of(&entry, own));
+                }
+                Format::Names => push_failed_name(&entry, &mut self.text),
+                Format::Text | Format::Junit | Format::Html | Format::Markdown | Format::Json => {}
+            }
+        }
+        for annotation in annotations {
+            annotation.push(&mut self.text);
+        }
+        if !self.text.is_empty() {
+            self.text.write_to(output)?;
+            output.flush()?;
+        }
+        Ok(())
+    }
+}
+
+/// Writes texts one after another, by one write.
+fn write_texts(texts: &mut [Text], output: &mut impl Write) -> io::Result<()> {
+    let mut all = Vec::new();
+    for text in texts {
+        text.write_to(&mut all)?;
+    }
+    output.write_all(&all)
+}
+
+/// Returns true if a note comes after the others of its line: tests that were not run, and the numbers of a suite.
+fn comes_last(note: &Note) -> bool {
+    match note {
+        Note::NotRun(_) | Note::Suite(_) => true,
+        Note::Test(_) | Note::Flaky(_) | Note::Disagreement(_) => false,
+    }
+}
+
+/// Returns true for the last note of what the end of a file makes known at once: the numbers of a suite, a failure of
+/// cargo, a file without events, or a command that failed.
+fn ends_part(note: &Note) -> bool {
+    match note {
+        Note::Suite(_) => true,
+        Note::Disagreement(disagreement) => match disagreement {
+            Disagreement::Cargo(_) | Disagreement::NoEvent { .. } | Disagreement::Command(_) => {
+                true
+            }
+            Disagreement::EndedEarly { .. }
+            | Disagreement::LastLine { .. }
+            | Disagreement::StrayEnd { .. }
+            | Disagreement::StraySuiteEnd { .. }
+            | Disagreement::OutsideSuite { .. }
+            | Disagreement::Damaged { .. } => false,
+        },
+        Note::Test(_) | Note::Flaky(_) | Note::NotRun(_) => false,
+    }
+}
+
+impl FileTexts {
+    /// Returns the texts of the files and, if it is a document or JSON, that of standard output.
+    fn of(model: ReportModel, files: Files, format: Format, options: Options) -> FileTexts {
+        let html = files.html || format == Format::Html;
+        let markdown = files.markdown || format == Format::Markdown;
+        let json = files.json || format == Format::Json;
+        let junit = files.junit || format == Format::Junit;
+        FileTexts {
+            html: html.then(|| page(&model)),
+            markdown: markdown.then(|| summary(&model)),
+            json: json.then(|| Json::of(&model)),
+            junit: junit.then(|| junit::junit(model, options.no_tests_pass)),
+        }
+    }
+
+    /// Writes the text of standard output, if it is a document or JSON.
+    fn write_to(&self, format: Format, output: &mut impl Write) -> io::Result<()> {
+        let document = match format {
+            Format::Junit => &self.junit,
+            Format::Html => &self.html,
+            Format::Markdown => &self.markdown,
+            Format::Json => {
+                return self
+                    .json
+                    .as_ref()
+                    .map_or(Ok(()), |json| json.write_to(output));
+            }
+            Format::Text | Format::Annotated { .. } | Format::Github { .. } | Format::Names => {
+                &None
+            }
+        };
+        document
+            .as_ref()
+            .map_or(Ok(()), |document| document.write_to(output))
+    }
+}

@@ -1,0 +1,464 @@
+//! The model of a finished report, which documents and JSON show. Its texts are not escaped, except those of outputs in
+//! documents and of problems.
+
+use crate::report::annotations::limited;
+use crate::report::entry::Entry;
+use crate::report::escape::{front, text, whole_text};
+use crate::report::failure::ShownFailure;
+use crate::report::numbers::Numbers;
+use crate::report::options::Options;
+use crate::report::problem::{NO_TESTS, Problem};
+use crate::report::slowest::Slowest;
+use crate::report::whole_output::{OutputRoom, PAGE_ROOM, SUMMARY_ROOM, WholeOutput};
+use crate::report::words::{outcome_text, seconds_text, shown_name, title};
+use deodarsieve::RunOutcome;
+use deodarsieve_run::{FailureKind, RunEnd, SuiteNote, TestNote, TestOutcome};
+use serde::ser::{SerializeMap, Serializer};
+use serde::{Serialize, ser};
+use serde_json::value::RawValue;
+use std::cmp::Ordering;
+use std::collections::BTreeMap;
+use std::rc::Rc;
+
+/// The number of slowest tests that are listed.
+const SLOWEST: usize = 10;
+
+/// A finished report. As JSON it is the text of `--format json`.
+#[derive(Serialize)]
+pub(crate) struct ReportModel {
+    pub(crate) outcome: &'static str,
+    pub(crate) numbers: Numbers,
+    #[serde(skip_serializing_if = "Option::is_none")]
+    pub(crate) time: Option<Seconds>,
+    pub(crate) suites: Vec<SuiteModel>,
+
+    /// The problems other than failed tests. If no test ran, that is the first one.
+    pub(crate) problems: Vec<ProblemModel>,
+
+    /// The slowest tests, the slowest first.
+    #[serde(skip)]
+    pub(crate) slowest: Vec<(u64, String)>,
+
+    /// The skipped tests that have a reason, and their reasons. Both are escaped.
+    #[serde(skip)]
+    pub(crate) skips: Vec<(String, String)>,
+
+    /// The tests that passed after several attempts.
+    #[serde(skip)]
+    pub(crate) flaky: Vec<FlakyModel>,
+
+    /// True if no test ran.
+    #[serde(skip)]
+    pub(crate) is_empty: bool,
+}
+
+/// A time in microseconds. As JSON it is a number of seconds with three digits after the point.
+#[derive(Clone, Copy)]
+pub(crate) struct Seconds(pub(crate) u64);
+
+/// A suite that is over, or the tests outside of a suite.
+#[derive(Serialize)]
+pub(crate) struct SuiteModel {
+    #[serde(skip_serializing_if = "Option::is_none")]
+    pub(crate) name: Option<Rc<String>>,
+
+    /// The numbers of its tests.
+    pub(crate) numbers: Numbers,
+    #[serde(skip_serializing_if = "Option::is_none")]
+    pub(crate) time: Option<Seconds>,
+
+    /// Its tests, and its problems in between. JSON has the problems in the list of the report.
+    #[serde(rename = "tests", serialize_with = "serialize_tests")]
+    pub(crate) cases: Vec<CaseModel>,
+}
+
+/// A test case of a suite.
+pub(crate) enum CaseModel {
+    Test(TestModel),
+
+    /// The place of a problem in the list of the report, in which `no test ran` does not count.
+    Problem(usize),
+}
+
+/// A test.
+pub(crate) struct TestModel {
+    /// The name in its lines.
+    written_name: String,
+
+    /// Where the name begins that is shown, after the name of the suite and `$`.
+    start: usize,
+    pub(crate) attempts: usize,
+    slow: bool,
+    pub(crate) time: Option<Seconds>,
+    pub(crate) kind: TestKind,
+}
+
+/// How a test ended.
+pub(crate) enum TestKind {
+    Passed,
+
+    /// The test was skipped, for a reason if its line has one.
+    Skipped(Option<String>),
+    Failed(Box<FailedModel>),
+}
+
+/// Why a test failed.
+pub(crate) struct FailedModel {
+    /// The number of tests that became known as failed before this one.
+    pub(crate) order: usize,
+    pub(crate) result: FailedResult,
+    pub(crate) place: Option<PlaceModel>,
+    pub(crate) short: String,
+    pub(crate) why: String,
+    pub(crate) output: Option<String>,
+
+    /// The whole output in a page and in a summary, if `why` does not show all of it.
+    pub(crate) page_output: Option<WholeOutput>,
+    pub(crate) summary_output: Option<WholeOutput>,
+}
+
+/// How a test failed.
+#[derive(Clone, Copy, Serialize)]
+#[serde(rename_all = "lowercase")]
+pub(crate) enum FailedResult {
+    Failed,
+    #[serde(rename = "timed out")]
+    TimedOut,
+    Crashed,
+}
+
+/// A place in the sources.
+#[derive(Serialize)]
+pub(crate) struct PlaceModel {
+    pub(crate) file: String,
+    pub(crate) line: String,
+    #[serde(skip_serializing_if = "Option::is_none")]
+    column: Option<String>,
+}
+
+/// A problem other than a failed test.
+#[derive(Serialize)]
+pub(crate) struct ProblemModel {
+    pub(crate) kind: &'static str,
+    #[serde(skip_serializing_if = "Option::is_none")]
+    pub(crate) suite: Option<Rc<String>>,
+
+    /// The line of the report. It is escaped.
+    pub(crate) line: String,
+    #[serde(skip_serializing_if = "Option::is_none")]
+    pub(crate) why: Option<String>,
+}
+
+/// A test that passed after several attempts.
+pub(crate) struct FlakyModel {
+    /// The name of its suite and of the test. It is escaped.
+    pub(crate) title: String,
+    pub(crate) attempts: usize,
+    pub(crate) time: Option<Seconds>,
+}
+
+impl Serialize for Seconds {
+    fn serialize<S: Serializer>(&self, serializer: S) -> Result<S::Ok, S::Error> {
+        let number = RawValue::from_string(seconds_text(self.0)).map_err(ser::Error::custom)?;
+        number.serialize(serializer)
+    }
+}
+
+/// Serializes the tests among the cases of a suite.
+fn serialize_tests<S: Serializer>(cases: &[CaseModel], serializer: S) -> Result<S::Ok, S::Error> {
+    serializer.collect_seq(cases.iter().filter_map(|case| match case {
+        CaseModel::Test(test) => Some(test),
+        CaseModel::Problem(_) => None,
+    }))
+}
+
+impl Serialize for TestModel {
+    fn serialize<S: Serializer>(&self, serializer: S) -> Result<S::Ok, S::Error> {
+        let mut members = serializer.serialize_map(None)?;
+        members.serialize_entry("name", self.name())?;
+        members.serialize_entry("written_name", &self.written_name)?;
+        match &self.kind {
+            TestKind::Passed => members.serialize_entry("result", "passed")?,
+            TestKind::Skipped(_) => members.serialize_entry("result", "skipped")?,
+            TestKind::Failed(failed) => members.serialize_entry("result", &failed.result)?,
+        }
+        members.serialize_entry("attempts", &self.attempts)?;
+        members.serialize_entry("slow", &self.slow)?;
+        serialize_some(&mut members, "time", &self.time)?;
+        match &self.kind {
+            TestKind::Passed => {}
+            TestKind::Skipped(reason) => serialize_some(&mut members, "reason", reason)?,
+            TestKind::Failed(failed) => {
+                serialize_some(&mut members, "place", &failed.place)?;
+                members.serialize_entry("short", &failed.short)?;
+                members.serialize_entry("why", &failed.why)?;
+                serialize_some(&mut members, "output", &failed.output)?;
+            }
+        }
+        members.end()
+    }
+}
+
+/// Serializes a member, if it has a value.
+fn serialize_some<M: SerializeMap, T: Serialize>(
+    members: &mut M,
+    name: &'static str,
+    value: &Option<T>,
+) -> Result<(), M::Error> {
+    match value {
+        Some(value) => members.serialize_entry(name, value),
+        None => Ok(()),
+    }
+}
+
+impl TestModel {
+    /// Returns the name without the name of the suite and `$` at the front.
+    pub(crate) fn name(&self) -> &str {
+        &self.written_name[self.start..]
+    }
+
+    /// Returns a test.
+    fn of(test: &TestNote, kind: TestKind) -> TestModel {
+        TestModel {
+            written_name: test.name.clone(),
+            start: test.name.len() - shown_name(test).len(),
+            attempts: test.attempts,
+            slow: test.slow,
+            time: test.time.map(Seconds),
+            kind,
+        }
+    }
+}
+
+/// The name of an open suite, or of the tests outside of a suite, as a key. The tests of a suite share its name, which can
+/// be long. A comparison of a name with itself does not read it.
+#[derive(PartialEq, Eq)]
+struct SuiteKey(Option<Rc<String>>);
+
+impl PartialOrd for SuiteKey {
+    fn partial_cmp(&self, other: &SuiteKey) -> Option<Ordering> {
+        Some(self.cmp(other))
+    }
+}
+
+impl Ord for SuiteKey {
+    fn cmp(&self, other: &SuiteKey) -> Ordering {
+        match (&self.0, &other.0) {
+            (Some(own), Some(other)) if Rc::ptr_eq(own, other) => Ordering::Equal,
+            (own, other) => own.cmp(other),
+        }
+    }
+}
+
+/// Which documents are made of a model.
+#[derive(Clone, Copy, Default)]
+pub(crate) struct Wanted {
+    /// All tests are listed with their whole outputs, by JUnit's XML or JSON.
+    pub(crate) all_tests: bool,
+    pub(crate) page: bool,
+    pub(crate) summary: bool,
+}
+
+/// The model of a report, until its run is over.
+pub(crate) struct ModelBuilder {
+    options: Options,
+    wanted: Wanted,
+    page_room: OutputRoom,
+    summary_room: OutputRoom,
+
+    /// The cases of the suites that have not ended, by their names. The end of a file ends all of them.
+    open: BTreeMap<SuiteKey, Vec<CaseModel>>,
+
+    /// The suites that have ended.
+    suites: Vec<SuiteModel>,
+    problems: Vec<ProblemModel>,
+    slowest: Slowest<String>,
+    skips: Vec<(String, String)>,
+    flaky: Vec<FlakyModel>,
+
+    /// The number of failed tests.
+    failed: usize,
+}
+
+impl ModelBuilder {
+    /// Returns the model of a run without entries. Of the options it uses only `limit` and `output`.
+    pub(crate) fn new(options: Options, wanted: Wanted) -> ModelBuilder {
+        ModelBuilder {
+            options,
+            wanted,
+            page_room: PAGE_ROOM,
+            summary_room: SUMMARY_ROOM,
+            open: BTreeMap::new(),
+            suites: Vec::new(),
+            problems: Vec::new(),
+            slowest: Slowest::new(SLOWEST),
+            skips: Vec::new(),
+            flaky: Vec::new(),
+            failed: 0,
+        }
+    }
+
+    /// Keeps what is shown of an entry.
+    pub(crate) fn on_entry(&mut self, entry: &Entry<'_>) {
+        match entry {
+            Entry::Passed(test) => self.on_passed(test),
+            Entry::Skipped(test) => self.on_skipped(test),
+            Entry::Failed(failure) => self.on_failed(failure),
+            Entry::Problem(problem) => self.on_problem(problem),
+            Entry::Suite(suite) => self.on_suite(suite),
+            Entry::Flaky(_) => {}
+        }
+    }
+
+    /// Keeps a test that passed.
+    fn on_passed(&mut self, test: &TestNote) {
+        self.slowest.add(test.time, || title(test));
+        if test.attempts > 1 {
+            self.flaky.push(FlakyModel {
+                title: title(test),
+                attempts: test.attempts,
+                time: test.time.map(Seconds),
+            });
+        }
+        if self.wanted.all_tests {
+            let passed = TestModel::of(test, TestKind::Passed);
+            self.add(test.suite.as_ref(), CaseModel::Test(passed));
+        }
+    }
+
+    /// Keeps a skipped test.
+    fn on_skipped(&mut self, test: &TestNote) {
+        let reason = match &test.outcome {
+            TestOutcome::Skipped { reason } => reason.as_deref(),
+            TestOutcome::Passed { .. } | TestOutcome::Failed(_) => None,
+        };
+        if let Some(reason) = reason {
+            self.skips.push((title(test), whole_text(reason)));
+        }
+        if self.wanted.all_tests {
+            let skipped = TestKind::Skipped(reason.map(str::to_string));
+            let skipped = TestModel::of(test, skipped);
+            self.add(test.suite.as_ref(), CaseModel::Test(skipped));
+        }
+    }
+
+    /// Keeps a failed test.
+    fn on_failed(&mut self, failure: &ShownFailure<'_>) {
+        let (test, limit) = (failure.test, self.options.limit);
+        self.slowest.add(test.time, || title(test));
+        let why = failure.why();
+        let stdout = failure.failure.stdout.as_deref();
+        let left_out = stdout.filter(|_| why.hidden > 0 || front(&why.text, limit) != why.text);
+        let page = left_out.filter(|_| self.wanted.page);
+        let summary = left_out.filter(|_| self.wanted.summary);
+        let failed = FailedModel {
+            order: self.failed,
+            result: FailedResult::of(&failure.failure.kind),
+            place: failure.place.map(|place| PlaceModel {
+                file: place.file.to_string(),
+                line: place.line.to_string(),
+                column: place.column.map(str::to_string),
+            }),
+            short: front(&failure.short, limit).to_string(),
+            why: limited(why, limit),
+            output: stdout.filter(|_| self.wanted.all_tests).map(str::to_string),
+            page_output: page.and_then(|output| self.page_room.take(output)),
+            summary_output: summary.and_then(|output| self.summary_room.take(output)),
+        };
+        self.failed += 1;
+        let failed = TestModel::of(test, TestKind::Failed(Box::new(failed)));
+        self.add(test.suite.as_ref(), CaseModel::Test(failed));
+    }
+
+    /// Keeps a problem.
+    fn on_problem(&mut self, problem: &Problem<'_>) {
+        if problem.suite.is_some() {
+            self.add(problem.suite, CaseModel::Problem(self.problems.len()));
+        }
+        self.problems.push(ProblemModel {
+            kind: problem.kind,
+            suite: problem.suite.cloned(),
+            line: problem.line.clone(),
+            why: problem.why.clone(),
+        });
+    }
+
+    /// Adds a case to the open suite of this name, or to a new one.
+    fn add(&mut self, name: Option<&Rc<String>>, case: CaseModel) {
+        let key = SuiteKey(name.cloned());
+        self.open.entry(key).or_default().push(case);
+    }
+
+    /// Takes the end of a suite. The tests outside of a suite are left out if there are none.
+    fn on_suite(&mut self, suite: &SuiteNote) {
+        let key = SuiteKey(suite.name.clone());
+        let cases = self.open.remove(&key).unwrap_or_default();
+        let numbers = Numbers::of_suite(suite);
+        if suite.name.is_none() && numbers.are_zero() {
+            return;
+        }
+        self.suites.push(SuiteModel {
+            name: suite.name.clone(),
+            numbers,
+            time: suite.time.map(Seconds),
+            cases,
+        });
+    }
+
+    /// Returns the model of the finished report.
+    pub(crate) fn finish(self, end: &RunEnd) -> ReportModel {
+        let is_empty = matches!(end.outcome, RunOutcome::NoTestsRun);
+        let mut problems = self.problems;
+        if is_empty {
+            problems.insert(0, ProblemModel::no_tests());
+        }
+        ReportModel {
+            outcome: outcome_text(end.outcome),
+            numbers: Numbers::of_run(end),
+            time: end.time.map(Seconds),
+            suites: self.suites,
+            problems,
+            slowest: self.slowest.into_tests().collect(),
+            skips: self.skips,
+            flaky: self.flaky,
+            is_empty,
+        }
+    }
+}
+
+impl ReportModel {
+    /// Returns the problem of a case.
+    pub(crate) fn problem(&self, place: usize) -> &ProblemModel {
+        &self.problems[place + usize::from(self.is_empty)]
+    }
+}
+
+impl FailedResult {
+    /// Returns how a test failed.
+    fn of(kind: &FailureKind) -> FailedResult {
+        match kind {
+            FailureKind::Failed | FailureKind::WithoutEnd | FailureKind::Flaky => {
+                FailedResult::Failed
+            }
+            FailureKind::TimedOut => FailedResult::TimedOut,
+            FailureKind::Crashed(_) => FailedResult::Crashed,
+        }
+    }
+}
+
+impl ProblemModel {
+    /// Returns the problem that no test ran.
+    fn no_tests() -> ProblemModel {
+        ProblemModel {
+            kind: "no tests",
+            suite: None,
+            line: NO_TESTS.to_string(),
+            why: None,
+        }
+    }
+
+    /// Returns what explains the problem, if anything does. It is escaped.
+    pub(crate) fn shown_why(&self) -> Option<String> {
+        self.why.as_deref().map(text)
+    }
+}

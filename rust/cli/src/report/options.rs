@@ -1,0 +1,58 @@
+//! The options of a report.
+
+use deodarsieve::{FinalStatusLevel, StatusLevel, TestOutputDisplay};
+
+/// How much of a failed test's output is shown.
+#[derive(Clone, Copy, Debug, PartialEq, Eq)]
+pub enum OutputDisplay {
+    /// All of the output if it has at most as many bytes as the limit, or else as `Short`.
+    Auto,
+
+    /// The explanation in the output or, if there is none and no message, ten lines of it.
+    Short,
+
+    /// All of the output.
+    Whole,
+}
+
+/// The options of a report.
+#[derive(Clone, Copy, Debug, PartialEq, Eq)]
+pub struct Options {
+    /// The greatest number of bytes that are shown of why a test failed, and of its short reason. They are counted
+    /// in UTF-8, before escapes. With `usize::MAX` all are shown.
+    pub limit: usize,
+
+    /// How much of a failed test's output is shown.
+    pub output: OutputDisplay,
+
+    /// True if the form for people keeps control characters, and what a CI system takes for a command, in why a test
+    /// failed. Names are escaped all the same.
+    pub raw: bool,
+
+    /// True if the form for people colours the words for results.
+    pub color: bool,
+
+    /// The form for people writes a line for each test of this level or a more important one when the test ends. It also
+    /// writes the line of each test whose reason or output it shows then.
+    pub status_level: StatusLevel,
+
+    /// The list at the end of the form for people has the tests of this level and of each more important one, and each
+    /// test whose reason or output it shows there.
+    pub final_status_level: FinalStatusLevel,
+
+    /// When the form for people shows why tests failed.
+    pub failure_output: TestOutputDisplay,
+
+    /// When the form for people shows the output of tests that passed. Few runs have it.
+    pub success_output: TestOutputDisplay,
+
+    /// The greatest number of bytes that are shown of the output of a test that passed. They are counted in UTF-8,
+    /// before escapes. With `usize::MAX` all are shown.
+    pub passed_limit: usize,
+
+    /// The number of slowest tests in the list at the end of the form for people.
+    pub slowest: usize,
+
+    /// True if a run in which no test ran is to pass. JUnit's XML then has no error for it.
+    pub no_tests_pass: bool,
+}

@@ -1,0 +1,98 @@
+//! The place of a failure in the sources.
+
+use crate::report::explanation::Found;
+use crate::report::failure::is_crash;
+use crate::report::lines::{first_line, without_return};
+use crate::report::short::other_thread;
+use crate::report::words::shown_name;
+use deodarsieve_run::{Failure, TestNote};
+
+/// A place in the sources.
+#[derive(Clone, Copy, Debug, PartialEq, Eq)]
+pub(crate) struct Place<'a> {
+    /// The file.
+    pub(crate) file: &'a str,
+
+    /// The number of the line, in decimal digits.
+    pub(crate) line: &'a str,
+
+    /// The number of the column, in decimal digits, if it is known.
+    pub(crate) column: Option<&'a str>,
+}
+
+impl<'a> Place<'a> {
+    /// Returns the place of a failure, or `None` if it is not known. It is the place in the name of a documentation
+    /// test, or else the one that a panic in the output names, or else the one at the end of the message. A place outside
+    /// of the repository does not count. `found` is what is found in the output.
+    pub(crate) fn of(
+        test: &'a TestNote,
+        failure: &'a Failure,
+        found: &Found<'a>,
+    ) -> Option<Place<'a>> {
+        let ours = |place: &Place| is_ours(place.file);
+        documented(shown_name(test))
+            .filter(ours)
+            .or_else(|| of_panic(failure, found).filter(ours))
+            .or_else(|| of_message(failure.message.as_deref()?).filter(ours))
+    }
+}
+
+/// Returns true if a path is of a file of the repository, as far as its text says: it is not absolute, and no
+/// component is `..`.
+fn is_ours(path: &str) -> bool {
+    let is_slash = |c| c == '/' || c == '\\';
+    let has_drive =
+        path.starts_with(|c: char| c.is_ascii_alphabetic()) && path[1..].starts_with(':');
+    !path.starts_with(is_slash) && !has_drive && path.split(is_slash).all(|part| part != "..")
+}
+
+/// Returns the place in the name of a documentation test: `FILE - ITEM (line N)` or `FILE - (line N)`. Returns
+/// `None` for another name.
+fn documented(name: &str) -> Option<Place<'_>> {
+    let (file, rest) = name.split_once(" - ")?;
+    let (item, line) = rest.strip_suffix(')')?.rsplit_once("(line ")?;
+    let is_item = item.is_empty() || item.len() > 1 && item.ends_with(' ');
+    let is_place = !file.is_empty() && are_digits(line) && is_item;
+    is_place.then_some(Place {
+        file,
+        line,
+        column: None,
+    })
+}
+
+/// Returns the place that the head of a panic names. This is the first panic if the test crashed or if it is of another
+/// thread, or else the last panic.
+fn of_panic<'a>(failure: &Failure, found: &Found<'a>) -> Option<Place<'a>> {
+    let head = if is_crash(failure) {
+        found.first?
+    } else {
+        other_thread(found).or(found.last)?
+    };
+    let (line, _) = first_line(&found.output[head.stop..]);
+    parsed(line.strip_suffix(':')?)
+}
+
+/// Returns the place at the end of a message: what follows ` at ` in its last line.
+fn of_message(message: &str) -> Option<Place<'_>> {
+    let message = message.strip_suffix('\n').unwrap_or(message);
+    let (_, line) = message.rsplit_once('\n').unwrap_or(("", message));
+    let (_, place) = without_return(line).rsplit_once(" at ")?;
+    parsed(place)
+}
+
+/// Parses `FILE:LINE:COLUMN`. Returns `None` for another text.
+fn parsed(text: &str) -> Option<Place<'_>> {
+    let (rest, column) = text.rsplit_once(':')?;
+    let (file, line) = rest.rsplit_once(':')?;
+    let is_place = !file.is_empty() && are_digits(line) && are_digits(column);
+    is_place.then_some(Place {
+        file,
+        line,
+        column: Some(column),
+    })
+}
+
+/// Returns true for a number in decimal digits.
+fn are_digits(text: &str) -> bool {
+    !text.is_empty() && text.bytes().all(|byte| byte.is_ascii_digit())
+}

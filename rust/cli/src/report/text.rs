@@ -1,0 +1,296 @@
+//! The text for people, with a list of tests at its end.
+
+use crate::report::entry::Entry;
+use crate::report::escape::front;
+use crate::report::failure::{ShownFailure, Why};
+use crate::report::levels::{final_level, finished_output, has_line, skipped_output};
+use crate::report::lines::without_returns;
+use crate::report::options::Options;
+use crate::report::output::Text;
+use crate::report::problem::Problem;
+use crate::report::slowest::Slowest;
+use crate::report::words::{failed_status, outcome_text, push_time_and_title, summary};
+use crate::report_text::Style;
+use deodarsieve::{FinalStatusLevel, OutputOnTestFinished, OutputStoreFinal};
+use deodarsieve_run::{Finish, RunEnd, TestNote, TestOutcome};
+use std::collections::BTreeMap;
+
+/// The number of spaces before each line of why a test failed.
+const MARGIN: usize = 4;
+
+/// The same in the list.
+const LIST_MARGIN: usize = 13;
+
+/// The column in which the status of a test in the list ends.
+const STATUS_WIDTH: usize = 12;
+
+/// How lines of a harness are made, if there were none.
+const ADVICE: &str = "    \
+cargo test writes such lines with: RUSTC_BOOTSTRAP=1 cargo test -- -Z unstable-options --format json
+    test-report -- cargo test does this by itself
+";
+
+/// The text for people: the tests that the levels show, failed ones with why they failed, the problems, and at the end
+/// a summary and a list of tests.
+pub(crate) struct TextForm {
+    options: Options,
+    list: List,
+}
+
+/// The list at the end: the tests that are stored for it, in the order of their levels, and the slowest.
+struct List {
+    passed: Text,
+    skipped: Text,
+    slow: Text,
+
+    /// The flaky tests, by the number of tests that ended before them, and by how many were added before them.
+    flaky: BTreeMap<(usize, usize), Text>,
+    failed: Text,
+    slowest: Slowest<Text>,
+}
+
+impl List {
+    /// Returns an empty list.
+    fn new(options: Options) -> List {
+        let empty = || Text::new(options.raw);
+        List {
+            passed: empty(),
+            skipped: empty(),
+            slow: empty(),
+            flaky: BTreeMap::new(),
+            failed: empty(),
+            slowest: Slowest::new(options.slowest),
+        }
+    }
+
+    /// Returns the part of the list for a level, to which the lines of a test are appended, or `None` if the list has no
+    /// such part. `ended` is the number of tests that ended before the test.
+    fn part(&mut self, level: FinalStatusLevel, ended: usize, is_raw: bool) -> Option<&mut Text> {
+        match level {
+            FinalStatusLevel::Pass => Some(&mut self.passed),
+            FinalStatusLevel::Skip => Some(&mut self.skipped),
+            FinalStatusLevel::Slow => Some(&mut self.slow),
+            FinalStatusLevel::Flaky => {
+                let place = (ended, self.flaky.len());
+                Some(self.flaky.entry(place).or_insert_with(|| Text::new(is_raw)))
+            }
+            FinalStatusLevel::Fail => Some(&mut self.failed),
+            _ => None,
+        }
+    }
+
+    /// Keeps the line of a test that ran, if it is one of the slowest so far.
+    fn keep_time(&mut self, test: &TestNote, options: Options) {
+        self.slowest.add(test.time, || {
+            let mut line = Text::new(options.raw);
+            push_line("SLOWEST", test, STATUS_WIDTH, options, &mut line);
+            line.push("\n");
+            line
+        });
+    }
+}
+
+impl TextForm {
+    /// Returns the form before the first entry.
+    pub(crate) fn new(options: Options) -> TextForm {
+        TextForm {
+            options,
+            list: List::new(options),
+        }
+    }
+
+    /// Appends the text of an entry, and keeps what the list has of it.
+    pub(crate) fn on_entry(&mut self, entry: &Entry<'_>, text: &mut Text) {
+        match entry {
+            Entry::Failed(failure) => self.on_failed(failure, text),
+            Entry::Passed(test) => self.on_passed(test, text),
+            Entry::Flaky(test) => push_passed(test, self.options, text),
+            Entry::Skipped(test) => self.on_skipped(test, text),
+            Entry::Problem(problem) => push_problem(problem, text),
+            Entry::Suite(_) => {}
+        }
+    }
+
+    /// Returns the end of the text: the summary, the list and the outcome.
+    pub(crate) fn on_end(self, end: &RunEnd) -> Vec<Text> {
+        let mut head = Text::new(self.options.raw);
+        head.push(&format!("------------\n     Summary {}\n", summary(end)));
+        let mut outcome = Text::new(self.options.raw);
+        outcome.push(&format!("outcome {}\n", outcome_text(end.outcome)));
+        let list = self.list;
+        let mut texts = vec![head, list.passed, list.skipped, list.slow];
+        texts.extend(list.flaky.into_values());
+        texts.push(list.failed);
+        texts.extend(list.slowest.into_tests().map(|(_, line)| line));
+        texts.push(outcome);
+        texts
+    }
+
+    /// Takes a test that failed.
+    fn on_failed(&mut self, failure: &ShownFailure<'_>, text: &mut Text) {
+        let (test, kind, options) = (failure.test, &failure.failure.kind, self.options);
+        let (status, finish) = (failed_status(kind), Finish::of_failure(kind));
+        let shows = finished_output(options, finish, test);
+        if has_line(shows) {
+            push_line(status, test, 0, options, text);
+            if test.attempts > 1 {
+                text.push(&format!(" ({} attempts)", test.attempts));
+            }
+            text.push("\n");
+        }
+        if shows.show_immediate {
+            push_why(failure, MARGIN, options, text);
+        }
+        self.list.keep_time(test, options);
+        let OutputStoreFinal::Yes { display_output } = shows.store_final else {
+            return;
+        };
+        if let Some(part) = self.list.part(final_level(finish, test), 0, options.raw) {
+            push_line(status, test, STATUS_WIDTH, options, part);
+            part.push(": ");
+            part.push_input(front(&failure.short, options.limit));
+            part.push("\n");
+            if display_output {
+                push_why(failure, LIST_MARGIN, options, part);
+            }
+        }
+    }
+
+    /// Takes a test that passed. What is shown of a flaky test was written when it passed.
+    fn on_passed(&mut self, test: &TestNote, text: &mut Text) {
+        let options = self.options;
+        if test.attempts <= 1 {
+            push_passed(test, options, text);
+        }
+        self.list.keep_time(test, options);
+        let shows = finished_output(options, Finish::Passed, test);
+        let OutputStoreFinal::Yes { display_output } = shows.store_final else {
+            return;
+        };
+        let (level, ended) = (final_level(Finish::Passed, test), test.ended.unwrap_or(0));
+        if let Some(part) = self.list.part(level, ended, options.raw) {
+            let status = match test.attempts {
+                0 | 1 if test.slow => "SLOW".to_string(),
+                _ => passed_status(test),
+            };
+            push_line(&status, test, STATUS_WIDTH, options, part);
+            part.push("\n");
+            if display_output {
+                push_output(test, LIST_MARGIN, options, part);
+            }
+        }
+    }
+
+    /// Takes a skipped test.
+    fn on_skipped(&mut self, test: &TestNote, text: &mut Text) {
+        let options = self.options;
+        let shows = skipped_output(options, test);
+        if has_line(shows) {
+            push_line("SKIP", test, 0, options, text);
+            text.push("\n");
+        }
+        if let OutputStoreFinal::Yes { .. } = shows.store_final {
+            push_line("SKIP", test, STATUS_WIDTH, options, &mut self.list.skipped);
+            self.list.skipped.push("\n");
+        }
+    }
+}
+
+/// Appends the line of a test that passed and its output, if the levels show them.
+fn push_passed(test: &TestNote, options: Options, text: &mut Text) {
+    let shows = finished_output(options, Finish::Passed, test);
+    let shows = OutputOnTestFinished {
+        show_immediate: shows.show_immediate && passed_output(test).is_some(),
+        ..shows
+    };
+    if has_line(shows) {
+        push_line(&passed_status(test), test, 0, options, text);
+        text.push("\n");
+    }
+    if shows.show_immediate {
+        push_output(test, MARGIN, options, text);
+    }
+}
+
+/// Appends the status, the time and the name of a test. The status ends in the column `width`.
+fn push_line(status: &str, test: &TestNote, width: usize, options: Options, text: &mut Text) {
+    let mut line = " ".repeat(width.saturating_sub(status.len()));
+    if options.color {
+        text.push(&line);
+        text.push_styled(status, style_of(status));
+        line.clear();
+    } else {
+        line.push_str(status);
+    }
+    line.push(' ');
+    push_time_and_title(&mut line, test);
+    text.push(&line);
+}
+
+/// Appends why a test failed. If several tests of a suite crashed, only the first has the explanation.
+fn push_why(failure: &ShownFailure<'_>, margin: usize, options: Options, text: &mut Text) {
+    let below = failure.why_below();
+    let why: &Why = below.as_ref().unwrap_or_else(|| failure.why());
+    push_limited(&why.text, options.limit, margin, text);
+    if why.hidden > 0 {
+        let (hidden, spaces) = (why.hidden, " ".repeat(margin));
+        text.push(&format!("{spaces}({hidden} more lines of output)\n"));
+    }
+}
+
+/// Appends the output of a test that passed, or nothing if there is none.
+fn push_output(test: &TestNote, margin: usize, options: Options, text: &mut Text) {
+    if let Some(output) = passed_output(test) {
+        push_limited(&without_returns(output), options.passed_limit, margin, text);
+    }
+}
+
+/// Appends at most the first `limit` bytes of a text of a test, and the number of bytes that are not shown.
+fn push_limited(input: &str, limit: usize, margin: usize, text: &mut Text) {
+    let first = front(input, limit);
+    text.push_indented(first, margin);
+    let more = input.len() - first.len();
+    if more > 0 {
+        text.push(&format!("{}({more} more bytes)\n", " ".repeat(margin)));
+    }
+}
+
+/// Appends the line of a problem, under it what explains the problem, and how to get lines of a harness if there were
+/// none.
+fn push_problem(problem: &Problem<'_>, text: &mut Text) {
+    text.push(&format!("{}\n", problem.line));
+    if let Some(why) = &problem.why {
+        text.push_indented(why, MARGIN);
+    }
+    if problem.lacks_events {
+        text.push(ADVICE);
+    }
+}
+
+/// Returns the word for a test that passed.
+fn passed_status(test: &TestNote) -> String {
+    match test.attempts {
+        0 | 1 => "PASS".to_string(),
+        attempts => format!("FLAKY {attempts}/{attempts}"),
+    }
+}
+
+/// Returns the style of the word for a result.
+fn style_of(status: &str) -> Style {
+    match status {
+        "FAIL" | "TIMEOUT" | "CRASH" => Style::BoldRed,
+        "PASS" => Style::BoldGreen,
+        _ => Style::BoldYellow,
+    }
+}
+
+/// Returns the output of a test that passed, without the white space at its end, or `None` if nothing is left.
+fn passed_output(test: &TestNote) -> Option<&str> {
+    match &test.outcome {
+        TestOutcome::Passed { output } => {
+            let output = output.as_deref()?.trim_end();
+            (!output.is_empty()).then_some(output)
+        }
+        TestOutcome::Skipped { .. } | TestOutcome::Failed(_) => None,
+    }
+}

@@ -1,0 +1,331 @@
+//! Values for templates, and the page and the summary that templates make of a model.
+//!
+//! An item of a list has its own values, and a list without items is absent. Names are in lower case:
+//!
+//! | values | of |
+//! |---|---|
+//! | `outcome` | the run: a word |
+//! | `finished`, `passed`, `flaky`, `failed`, `timed_out`, `crashed`, `skipped`, `not_run` | its tests, as numbers |
+//! | `slow` | the tests that passed and were slow, if there are some: a `count` |
+//! | `time` | the run, if its time is known |
+//! | `bar` | the run, unless no test is known: a `part` with a `class` and a `number` for each number that is not 0 |
+//! | `problems` | a `problem` with a `line` and, if anything explains it, `why` (its `text`) |
+//! | `failures` | a `failed` test with `status`, `suite` (its `name`), `name`, `note`, `short`, `why` and, if `why` does not show all of its output, `output` (its `text`, and the number of its `lines`) |
+//! | `suites` | a `suite` with `name`, `words`, `bar` (as above) and `time` |
+//! | `slowest` | a `slow` test with `name`, `share` (of the longest time, in hundredths) and `seconds` |
+//! | `skips` | a `skip` with `name` and `reason`: a skipped test that has a reason |
+//! | `flaky_tests` | a `test` with `name`, `attempts` and `time`: one that passed after several attempts |
+//! | `more` | the failed tests that a summary leaves out, if there are some: a `count` |
+//! | `ran`, `no_tests` | the run in a summary: its `outcome`, or that no test ran |
+//!
+//! A `note` has `attempts` with a `count`, if there were several, and a `time`. A `time` has `seconds`. If a `line`, a
+//! `short`, or the `name` of a failed test or of its suite has an `@`, there is an item without values beside it:
+//! `line_code`, `short_code` or `name_code`.
+
+use crate::report::escape::{name, text};
+use crate::report::model::{
+    CaseModel, FailedModel, FailedResult, FlakyModel, ProblemModel, ReportModel, Seconds,
+    SuiteModel, TestKind, TestModel,
+};
+use crate::report::numbers::Numbers;
+use crate::report::output::{Document, parts_of};
+use crate::report::whole_output::WholeOutput;
+use crate::report::words::{seconds_text, suite_name};
+use crate::report_templates::{FAILED, MARKDOWN, PAGE};
+use crate::template::{Value, push_item, push_section, push_text, render};
+
+/// The summary shows failed tests until their rows and details have this number of bytes. GitHub shows a summary of at
+/// most 1 MiB.
+const MOST_BYTES: usize = 900_000;
+
+/// Values for a template.
+#[derive(Default)]
+pub(crate) struct Values(Vec<Value>);
+
+impl Values {
+    /// Returns no values, with room for this number of them. Documents have many short lists, so spare room counts.
+    pub(crate) fn with_room(count: usize) -> Values {
+        Values(Vec::with_capacity(count))
+    }
+
+    /// Returns values with one text.
+    pub(crate) fn of(name: &'static str, text: impl Into<String>) -> Values {
+        Values::with_room(1).text(name, text)
+    }
+
+    /// Adds a text.
+    pub(crate) fn text(mut self, name: &'static str, text: impl Into<String>) -> Values {
+        push_text(&mut self.0, name, text.into());
+        self
+    }
+
+    /// Adds a number.
+    pub(crate) fn number(self, name: &'static str, number: impl ToString) -> Values {
+        self.text(name, number.to_string())
+    }
+
+    /// Adds an item of a list.
+    pub(crate) fn item(mut self, list: &'static str, item: Values) -> Values {
+        push_item(&mut self.0, list, item.0);
+        self
+    }
+
+    /// Adds an item of a list, if there is one.
+    pub(crate) fn some(self, list: &'static str, item: Option<Values>) -> Values {
+        match item {
+            Some(item) => self.item(list, item),
+            None => self,
+        }
+    }
+
+    /// Adds an item without values, if a condition is true.
+    pub(crate) fn mark(self, list: &'static str, condition: bool) -> Values {
+        self.some(list, condition.then(Values::default))
+    }
+
+    /// Adds a list of items in a section of its own, unless there are none.
+    pub(crate) fn section(
+        mut self,
+        section: &'static str,
+        list: &'static str,
+        items: impl Iterator<Item = Values>,
+    ) -> Values {
+        let mut values = Values::default();
+        for item in items {
+            values = values.item(list, item);
+        }
+        push_section(&mut self.0, section, values.0);
+        self
+    }
+
+    /// Adds a time, if it is known.
+    pub(crate) fn time(self, time: Option<Seconds>) -> Values {
+        self.some(
+            "time",
+            time.map(|time| Values::of("seconds", seconds_text(time.0))),
+        )
+    }
+
+    /// Returns what a template renders of the values, after `head` and before `tail`.
+    pub(crate) fn rendered(
+        &self,
+        head: &'static str,
+        template: &'static str,
+        tail: &'static str,
+    ) -> Document {
+        Document::rendered(head, template, tail, &self.0)
+    }
+}
+
+/// Returns the page of a report.
+pub(crate) fn page(model: &ReportModel) -> Document {
+    let longest = model.slowest.first().map_or(0, |slow| slow.0).max(1);
+    let suites = model.suites.iter().map(suite_row);
+    let slowest = model.slowest.iter().map(|(time, title)| {
+        let share = u128::from(*time) * 100 / u128::from(longest);
+        Values::of("name", title)
+            .number("share", share)
+            .text("seconds", seconds_text(*time))
+    });
+    let failures = failures(model).into_iter().map(|failure| {
+        let output = &failure.failed.page_output;
+        failure.values(output)
+    });
+    run_values(model)
+        .text("outcome", model.outcome)
+        .section("bar", "part", bar_parts(model.numbers))
+        .section(
+            "problems",
+            "problem",
+            model.problems.iter().map(problem_values),
+        )
+        .section("failures", "failed", failures)
+        .section("suites", "suite", suites)
+        .section("slowest", "slow", slowest)
+        .section(
+            "skips",
+            "skip",
+            model
+                .skips
+                .iter()
+                .map(|(name, reason)| Values::of("name", name).text("reason", reason)),
+        )
+        .section("flaky_tests", "test", model.flaky.iter().map(flaky_values))
+        .rendered("<!DOCTYPE html>\n", PAGE, "\n")
+}
+
+/// Returns the summary of a report in Markdown. It has only the first of many failed tests.
+pub(crate) fn summary(model: &ReportModel) -> Document {
+    let failures = failures(model);
+    let shown: Vec<_> = fitting(&failures).collect();
+    let more = failures.len() - shown.len();
+    // The template itself has the word for a run in which no test ran: its hyphens would be references in a value.
+    let outcome = (!model.is_empty).then(|| Values::of("outcome", model.outcome));
+    run_values(model)
+        .section(
+            "problems",
+            "problem",
+            model.problems.iter().map(problem_values),
+        )
+        .section("failures", "failed", shown.into_iter())
+        .some(
+            "more",
+            (more > 0).then(|| Values::of("count", more.to_string())),
+        )
+        .some("ran", outcome)
+        .mark("no_tests", model.is_empty)
+        .rendered("", MARKDOWN, "")
+}
+
+/// Returns the first failed tests, until their rows and details fill the summary.
+fn fitting(failures: &[Failure<'_>]) -> impl Iterator<Item = Values> {
+    let parts = parts_of(FAILED);
+    let mut room = MOST_BYTES;
+    failures.iter().map_while(move |failure| {
+        if room == 0 {
+            return None;
+        }
+        let values = failure.values(&failure.failed.summary_output);
+        let mut text = String::new();
+        render(&mut text, &parts, &values.0);
+        room = room.saturating_sub(text.len());
+        Some(values)
+    })
+}
+
+/// Returns the numbers and the time of a run.
+fn run_values(model: &ReportModel) -> Values {
+    let Numbers {
+        finished,
+        passed,
+        flaky,
+        slow,
+        failed,
+        timed_out,
+        crashed,
+        skipped,
+        not_run,
+    } = model.numbers;
+    Values::default()
+        .number("finished", finished)
+        .number("passed", passed)
+        .number("flaky", flaky)
+        .some(
+            "slow",
+            (slow > 0).then(|| Values::of("count", slow.to_string())),
+        )
+        .number("failed", failed)
+        .number("timed_out", timed_out)
+        .number("crashed", crashed)
+        .number("skipped", skipped)
+        .number("not_run", not_run)
+        .time(model.time)
+}
+
+/// Returns the parts of a bar.
+fn bar_parts(numbers: Numbers) -> impl Iterator<Item = Values> {
+    numbers
+        .parts()
+        .map(|(number, _, class)| Values::of("class", class).number("number", number))
+}
+
+/// Returns the values of a problem.
+fn problem_values(problem: &ProblemModel) -> Values {
+    Values::of("line", &problem.line)
+        .some(
+            "why",
+            problem.shown_why().map(|why| Values::of("text", why)),
+        )
+        .mark("line_code", problem.line.contains('@'))
+}
+
+/// Returns the row of a suite.
+fn suite_row(suite: &SuiteModel) -> Values {
+    let name = suite.name.as_deref().map(String::as_str);
+    Values::of("name", suite_name(name))
+        .text("words", suite.numbers.words())
+        .section("bar", "part", bar_parts(suite.numbers))
+        .time(suite.time)
+}
+
+/// Returns the values of a test that passed after several attempts.
+fn flaky_values(test: &FlakyModel) -> Values {
+    Values::of("name", &test.title)
+        .number("attempts", test.attempts)
+        .time(test.time)
+}
+
+/// A failed test of a report.
+struct Failure<'a> {
+    suite: &'a SuiteModel,
+    test: &'a TestModel,
+    failed: &'a FailedModel,
+}
+
+/// Returns the failed tests of a report, in the order in which they became known.
+fn failures(model: &ReportModel) -> Vec<Failure<'_>> {
+    let mut failures = Vec::new();
+    for suite in &model.suites {
+        failures.extend(
+            suite
+                .cases
+                .iter()
+                .filter_map(|case| Failure::of(suite, case)),
+        );
+    }
+    failures.sort_by_key(|failure| failure.failed.order);
+    failures
+}
+
+impl<'a> Failure<'a> {
+    /// Returns the failed test of a case of a suite.
+    fn of(suite: &'a SuiteModel, case: &'a CaseModel) -> Option<Failure<'a>> {
+        match case {
+            CaseModel::Test(test) => match &test.kind {
+                TestKind::Failed(failed) => Some(Failure {
+                    suite,
+                    test,
+                    failed,
+                }),
+                TestKind::Passed | TestKind::Skipped(_) => None,
+            },
+            CaseModel::Problem(_) => None,
+        }
+    }
+
+    /// Returns the values of the test, with its whole output if there is one.
+    fn values(&self, output: &Option<WholeOutput>) -> Values {
+        let (test, failed) = (self.test, self.failed);
+        let (test_name, short) = (name(test.name()), text(&failed.short));
+        let suite = self.suite.name.as_ref().map(|suite| {
+            let suite = name(suite);
+            let has_at = suite.contains('@');
+            Values::of("name", suite).mark("name_code", has_at)
+        });
+        let attempts = (test.attempts > 1).then(|| Values::of("count", test.attempts.to_string()));
+        let note = Values::default().some("attempts", attempts).time(test.time);
+        let output = output
+            .as_ref()
+            .map(|output| Values::of("lines", output.lines.to_string()).text("text", &output.text));
+        Values::of("status", failed.result.status())
+            .some("suite", suite)
+            .some("note", (!note.0.is_empty()).then_some(note))
+            .mark("name_code", test_name.contains('@'))
+            .mark("short_code", short.contains('@'))
+            .text("name", test_name)
+            .text("short", short)
+            .text("why", text(&failed.why))
+            .some("output", output)
+    }
+}
+
+impl FailedResult {
+    /// Returns the word for a result.
+    fn status(self) -> &'static str {
+        match self {
+            FailedResult::Failed => "FAIL",
+            FailedResult::TimedOut => "TIMEOUT",
+            FailedResult::Crashed => "CRASH",
+        }
+    }
+}

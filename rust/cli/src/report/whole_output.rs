@@ -1,0 +1,87 @@
+//! Whole outputs of failed tests, which a document has if why a test failed leaves out a part of its output.
+
+use crate::report::escape::text;
+use crate::report::lines::{first_line, without_returns};
+
+/// How much room a document has for outputs of failed tests.
+#[derive(Clone, Copy)]
+pub(crate) struct OutputRoom {
+    /// The most bytes of one output.
+    each: usize,
+
+    /// The number of bytes of outputs, as they are written, after which there are no other outputs.
+    left: usize,
+}
+
+/// The room of a page.
+pub(crate) const PAGE_ROOM: OutputRoom = OutputRoom {
+    each: 1_048_576,
+    left: 16_777_216,
+};
+
+/// The room of a summary. After this number of bytes it has no failed tests either.
+pub(crate) const SUMMARY_ROOM: OutputRoom = OutputRoom {
+    each: 16_384,
+    left: 900_000,
+};
+
+/// The whole output of a failed test. Its text is escaped.
+pub(crate) struct WholeOutput {
+    /// The number of its lines.
+    pub(crate) lines: usize,
+
+    /// The text, or its end after a line with the number of bytes before that.
+    pub(crate) text: String,
+}
+
+impl OutputRoom {
+    /// Returns an output that is not blank, as far as there is room for it, and takes that room.
+    pub(crate) fn take(&mut self, output: &str) -> Option<WholeOutput> {
+        if self.left == 0 {
+            return None;
+        }
+        let output = without_returns(output.trim_end());
+        if output.is_empty() {
+            return None;
+        }
+        let shown = shown_end(&output, self.each);
+        self.left = self.left.saturating_sub(written_size(&shown));
+        Some(WholeOutput {
+            lines: output.split('\n').count(),
+            text: shown,
+        })
+    }
+}
+
+/// Returns the end of a text as it is shown, after a line with the number of bytes before that.
+fn shown_end(whole: &str, most: usize) -> String {
+    let end = kept_end(whole, most);
+    match whole.len() - end.len() {
+        0 => text(end),
+        before => format!("({before} bytes before this)\n{}", text(end)),
+    }
+}
+
+/// Returns the end of a text that has at most this number of bytes: from the start of a line or, if no line starts in
+/// it, of a character.
+fn kept_end(text: &str, most: usize) -> &str {
+    if text.len() <= most {
+        return text;
+    }
+    let from_char = |place| &text[text.ceil_char_boundary(place)..];
+    let before = text.len() - most;
+    match first_line(from_char(before - 1)) {
+        (_, "") => from_char(before),
+        (_, lines) => lines,
+    }
+}
+
+/// Returns how many bytes a text has between tags.
+fn written_size(text: &str) -> usize {
+    let size = |byte| match byte {
+        b'&' | b'\r' => 5,
+        b'<' | b'>' => 4,
+        _ => 1,
+    };
+    text.bytes().map(size).sum()
+}

@@ -1,0 +1,320 @@
+//! The form `json`: read back, it has the facts of the run.
+
+use crate::facts::{
+    Facts, MARKS, Suite, failure_of, outcome, own_name, problem_line, suite_of_problem,
+    without_returns,
+};
+use deodarsieve::RunStats;
+use deodarsieve_cli::report::options::{Options, OutputDisplay};
+use deodarsieve_run::{Failure, FailureKind, Note, TestNote, TestOutcome};
+use serde_json::{Value, json};
+
+/// What the forms show of a failed test. Its texts are not escaped.
+pub struct ShownFailure {
+    pub short: String,
+    pub why: String,
+    pub place: Option<Place>,
+}
+
+/// A place in the sources.
+pub struct Place {
+    pub file: String,
+    pub line: String,
+    pub column: Option<String>,
+}
+
+/// What the forms show that is not in the notes of the run.
+pub struct Shown {
+    /// The failed tests, in the order in which they became known.
+    pub failures: Vec<ShownFailure>,
+
+    /// What explains the problems, in their order.
+    pub problems: Vec<Option<String>>,
+}
+
+/// Returns a number as JSON.
+fn number(number: u128) -> Value {
+    serde_json::from_str(&number.to_string()).expect("a number is JSON")
+}
+
+/// Returns numbers of tests as JSON.
+fn numbers(stats: &RunStats, crashed: usize, skipped: u128, not_run: u128) -> Value {
+    json!({
+        "finished": stats.finished_count,
+        "passed": stats.passed,
+        "flaky": stats.flaky,
+        "slow": stats.passed_slow,
+        "failed": stats.finished_count - stats.passed,
+        "timed_out": stats.failed_timed_out,
+        "crashed": crashed,
+        "skipped": number(skipped),
+        "not_run": number(not_run),
+    })
+}
+
+/// Adds a member, if it has a value.
+fn add(object: &mut Value, name: &str, value: Option<impl Into<Value>>) {
+    if let Some(value) = value {
+        object[name] = value.into();
+    }
+}
+
+/// Returns a time as JSON.
+fn time(micros: Option<u64>) -> Option<Value> {
+    let text = crate::facts::seconds(micros?);
+    Some(serde_json::from_str(&text).expect("a time is JSON"))
+}
+
+/// Returns a test as JSON, without what is shown of a failure.
+fn test_value(test: &TestNote) -> Value {
+    let result = match &test.outcome {
+        TestOutcome::Passed { .. } => "passed",
+        TestOutcome::Skipped { .. } => "skipped",
+        TestOutcome::Failed(failure) => match failure.kind {
+            FailureKind::TimedOut => "timed out",
+            FailureKind::Crashed(_) => "crashed",
+            FailureKind::Failed | FailureKind::WithoutEnd | FailureKind::Flaky => "failed",
+        },
+    };
+    let mut value = json!({
+        "name": own_name(test),
+        "written_name": test.name,
+        "result": result,
+        "attempts": test.attempts,
+        "slow": test.slow,
+    });
+    add(&mut value, "time", time(test.time));
+    if let TestOutcome::Skipped { reason } = &test.outcome {
+        add(&mut value, "reason", reason.as_deref());
+    }
+    let output = failure_of(test).and_then(|failure| failure.stdout.as_deref());
+    add(&mut value, "output", output);
+    value
+}
+
+/// Returns a suite as JSON.
+fn suite_value(suite: &Suite<'_>) -> Value {
+    let tests = suite.notes.iter().filter_map(|note| match note {
+        Note::Test(test) => Some(test_value(test)),
+        _ => None,
+    });
+    let mut value = json!({"tests": tests.collect::<Vec<_>>()});
+    add(&mut value, "name", suite.name);
+    if let Some(Note::Suite(over)) = suite.over {
+        value["numbers"] = numbers(&over.stats, over.crashed, over.skipped, over.not_run);
+        add(&mut value, "time", time(over.time));
+    }
+    value
+}
+
+/// Returns a problem as JSON, without what explains it.
+fn problem_value(note: &Note) -> Value {
+    let kind = match note {
+        Note::NotRun(_) => "not run",
+        _ => "disagreement",
+    };
+    let mut value = json!({"kind": kind, "line": problem_line(note)});
+    add(&mut value, "suite", suite_of_problem(note));
+    value
+}
+
+/// Returns the report of a run as JSON, without what is not in its notes.
+fn report_value(facts: &Facts) -> Value {
+    let end = &facts.end;
+    let mut problems: Vec<Value> = facts
+        .problems()
+        .map(|(note, _)| problem_value(note))
+        .collect();
+    if outcome(end) == "no-tests-run" {
+        problems.insert(0, json!({"kind": "no tests", "line": "no test ran"}));
+    }
+    let suites = facts.suites();
+    let suites: Vec<Value> = suites.iter().map(suite_value).collect();
+    let mut value = json!({
+        "outcome": outcome(end),
+        "numbers": numbers(&end.stats, end.crashed, end.skipped, end.not_run),
+        "suites": suites,
+        "problems": problems,
+    });
+    add(&mut value, "time", time(end.time));
+    value
+}
+
+/// Takes a member out of an object, if it is there.
+fn take(object: &mut Value, name: &str) -> Option<Value> {
+    object.as_object_mut()?.remove(name)
+}
+
+/// Takes a text out of an object, if it is there.
+fn take_text(object: &mut Value, name: &str) -> Option<String> {
+    take(object, name)?.as_str().map(str::to_string)
+}
+
+/// Takes what is shown of a failed test out of its object.
+fn take_failure(test: &mut Value) -> ShownFailure {
+    let place = take(test, "place").map(|mut place| Place {
+        file: take_text(&mut place, "file").expect("a place has a file"),
+        line: take_text(&mut place, "line").expect("a place has a line"),
+        column: take_text(&mut place, "column"),
+    });
+    ShownFailure {
+        short: take_text(test, "short").expect("a failed test has a short reason"),
+        why: take_text(test, "why").expect("a failed test has a reason"),
+        place,
+    }
+}
+
+/// Returns the elements of a list of an object.
+fn list<'a>(object: &'a mut Value, name: &str) -> &'a mut Vec<Value> {
+    object[name].as_array_mut().expect("it is a list")
+}
+
+/// Asserts that the JSON of a run has its facts, and returns what else is shown.
+pub fn check(facts: &Facts, json: &str, options: Options) -> Shown {
+    assert_eq!(json.find('\n'), Some(json.len() - 1), "it is one line");
+    assert!(!MARKS.iter().any(|mark| json.contains(mark)), "{json}");
+    let mut value: Value = serde_json::from_str(json).expect("it is JSON");
+    // The suites have the failed tests in another order than the run.
+    let mut places = facts.suites().into_iter().flat_map(|suite| suite.notes);
+    let mut found = Vec::new();
+    for suite in list(&mut value, "suites") {
+        for test in list(suite, "tests") {
+            let note = places.find_map(|note| match note {
+                Note::Test(test) => Some(test),
+                _ => None,
+            });
+            if let Some(note) = note.filter(|note| failure_of(note).is_some()) {
+                found.push((note, take_failure(test)));
+            }
+        }
+    }
+    let problems = list(&mut value, "problems");
+    let problems: Vec<_> = problems
+        .iter_mut()
+        .map(|problem| take_text(problem, "why"))
+        .collect();
+    assert_eq!(value, report_value(facts));
+    let no_tests = usize::from(outcome(&facts.end) == "no-tests-run");
+    Shown {
+        failures: facts
+            .failures()
+            .map(|(test, failure)| {
+                let place = found
+                    .iter()
+                    .position(|(found, _)| std::ptr::eq(*found, test));
+                let (_, shown) = found.swap_remove(place.expect("the failed test is in JSON"));
+                check_failure(test, failure, &shown, options);
+                shown
+            })
+            .collect(),
+        problems: problems[no_tests..].to_vec(),
+    }
+}
+
+/// Asserts what must be shown of a failed test, whatever its output says.
+fn check_failure(test: &TestNote, failure: &Failure, shown: &ShownFailure, options: Options) {
+    let Options { limit, output, .. } = options;
+    assert!(!shown.short.contains('\n'), "{:?}", shown.short);
+    assert!(shown.short.len() <= limit);
+    if let Some(place) = &shown.place {
+        check_place(test, failure, place);
+    }
+    let stdout = failure.stdout.as_deref().unwrap_or("").trim_end();
+    let reason = reason_of(test, failure);
+    if let FailureKind::Crashed(_) = failure.kind {
+        assert!(
+            shown.why.starts_with(first(&reason, limit)),
+            "{}",
+            shown.why
+        );
+        assert!(
+            shown.short.starts_with(first(&reason, limit)),
+            "{}",
+            shown.short
+        );
+        return;
+    }
+    let is_whole = match output {
+        OutputDisplay::Auto => stdout.len() <= limit,
+        OutputDisplay::Short => false,
+        OutputDisplay::Whole => true,
+    };
+    let parts = [reason.as_str(), if is_whole { stdout } else { "" }];
+    let parts: Vec<_> = parts.into_iter().filter(|part| !part.is_empty()).collect();
+    let wanted = without_returns(&parts.join("\n"));
+    if stdout.is_empty() && parts.is_empty() {
+        assert_eq!(shown.why, first("no output was captured", limit));
+    } else if is_whole {
+        assert_eq!(shown.why, limited(&wanted, limit), "{:?}", test.name);
+    } else {
+        // The line feed after a carriage return at its end may come with the next part.
+        let wanted = wanted.trim_end_matches('\r');
+        assert!(shown.why.starts_with(first(wanted, limit)), "{}", shown.why);
+    }
+}
+
+/// Returns the first bytes of a text, cut at a character.
+fn first(text: &str, limit: usize) -> &str {
+    let mut end = text.len().min(limit);
+    while !text.is_char_boundary(end) {
+        end -= 1;
+    }
+    &text[..end]
+}
+
+/// Returns the first bytes of a text and, if there are others, their number.
+pub fn limited(text: &str, limit: usize) -> String {
+    let shown = first(text, limit);
+    match text.len() - shown.len() {
+        0 => text.to_string(),
+        more => format!("{shown}\n({more} more bytes)"),
+    }
+}
+
+/// Returns what a failed test shows above its output: the reason and the message.
+pub fn reason_of(test: &TestNote, failure: &Failure) -> String {
+    let reason = match &failure.kind {
+        FailureKind::TimedOut => Some(match test.time {
+            Some(micros) => format!("timed out after {}s", crate::facts::seconds(micros)),
+            None => "timed out".to_string(),
+        }),
+        FailureKind::Flaky => Some("flaky, and set to fail".to_string()),
+        FailureKind::WithoutEnd => Some("no line says how it ended".to_string()),
+        FailureKind::Failed => failure.reason.clone(),
+        FailureKind::Crashed(crash) => {
+            let ended = if crash.has_key {
+                "the run"
+            } else {
+                "its process"
+            };
+            return match crash.running {
+                0 | 1 => format!("{ended} ended before it did"),
+                running => format!("one of {running} tests that ran when {ended} ended"),
+            };
+        }
+    };
+    let parts = [reason, failure.message.clone()];
+    parts.into_iter().flatten().collect::<Vec<_>>().join("\n")
+}
+
+/// Asserts that a place is in what is known of the test, and inside the repository.
+fn check_place(test: &TestNote, failure: &Failure, place: &Place) {
+    let Place { file, line, column } = place;
+    let outside = file.starts_with(['/', '\\']) || file.split(['/', '\\']).any(|it| it == "..");
+    assert!(!outside && !file.is_empty(), "{file}");
+    let wanted = match column {
+        Some(column) => format!("{file}:{line}:{column}"),
+        None => format!("(line {line})"),
+    };
+    let crash = match &failure.kind {
+        FailureKind::Crashed(crash) => crash.prints.as_str(),
+        _ => "",
+    };
+    let texts = [
+        own_name(test),
+        failure.stdout.as_deref().unwrap_or(""),
+        failure.message.as_deref().unwrap_or(""),
+        crash,
+    ];
+    assert!(texts.iter().any(|text| text.contains(&wanted)), "{wanted}");
+}

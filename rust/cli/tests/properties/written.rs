@@ -1,0 +1,143 @@
+//! What reports of a run write, in all forms.
+
+use crate::SLOW;
+use crate::facts::lines_of;
+use deodarsieve::{FinalStatusLevel, StatusLevel, TestOutputDisplay};
+use deodarsieve_cli::report::options::{Options, OutputDisplay};
+use deodarsieve_cli::report::{Document, Ended, Files, Format, Json, Report};
+use std::collections::VecDeque;
+
+/// The options of a report for which none are given.
+pub const OPTIONS: Options = Options {
+    limit: 4_096,
+    output: OutputDisplay::Auto,
+    raw: false,
+    color: false,
+    status_level: StatusLevel::Fail,
+    final_status_level: FinalStatusLevel::Slow,
+    failure_output: TestOutputDisplay::Immediate,
+    success_output: TestOutputDisplay::Never,
+    passed_limit: usize::MAX,
+    slowest: 0,
+    no_tests_pass: false,
+};
+
+/// Options that say how much is shown of why a test failed.
+pub const AMOUNTS: [Options; 4] = [
+    OPTIONS,
+    Options {
+        limit: 50,
+        ..OPTIONS
+    },
+    Options {
+        output: OutputDisplay::Short,
+        ..OPTIONS
+    },
+    Options {
+        output: OutputDisplay::Whole,
+        limit: usize::MAX,
+        ..OPTIONS
+    },
+];
+
+/// The number of slowest tests in the list of the text that has all tests.
+pub const SLOWEST: usize = 3;
+
+/// Returns options with which the text has a line for each test, and colours.
+fn with_all_tests(options: Options) -> Options {
+    Options {
+        color: true,
+        status_level: StatusLevel::All,
+        final_status_level: FinalStatusLevel::All,
+        success_output: TestOutputDisplay::Immediate,
+        slowest: SLOWEST,
+        ..options
+    }
+}
+
+/// A run in all forms.
+pub struct Written {
+    pub text: String,
+
+    /// The text with a line for each test, and with colours.
+    pub all: String,
+
+    /// The text of `--raw`.
+    pub raw: String,
+    pub annotated: String,
+    pub github: String,
+    pub names: String,
+    pub junit: String,
+    pub html: String,
+    pub markdown: String,
+    pub json: String,
+
+    /// The lines that are passed on.
+    pub others: Vec<u8>,
+}
+
+/// Returns what a report of a run writes, and its end. The lines that are passed on are added to `others`.
+fn reported(
+    run: &[Vec<u8>],
+    options: Options,
+    format: Format,
+    files: Files,
+    others: &mut Vec<u8>,
+) -> (String, Ended) {
+    let mut report = Report::new(options, format, files, SLOW, VecDeque::new());
+    let mut output = Vec::new();
+    for (place, file) in run.iter().enumerate() {
+        if place > 0 {
+            report.end_file(&mut output).expect("the numbers fit");
+        }
+        for line in lines_of(file) {
+            report
+                .on_line(line, &mut output, others)
+                .expect("the numbers fit");
+        }
+    }
+    let end = report.finish(None, &mut output).expect("the report ends");
+    let text = String::from_utf8(output).expect("the report is UTF-8");
+    (text, end)
+}
+
+impl Written {
+    /// Returns the reports of a run, and the end of one of them.
+    pub fn of(run: &[Vec<u8>], options: Options) -> (Written, Ended) {
+        let files = Files {
+            junit: true,
+            html: true,
+            markdown: true,
+            json: true,
+        };
+        let annotations = options;
+        let in_form = |options, format| {
+            let (text, _) = reported(run, options, format, Files::default(), &mut Vec::new());
+            text
+        };
+        let mut others = Vec::new();
+        let (text, end) = reported(run, options, Format::Text, files, &mut others);
+        let raw = Options {
+            raw: true,
+            ..options
+        };
+        let document = |document: &Option<Document>| {
+            let document = document.as_ref().expect("the file is wanted");
+            document.as_str().to_string()
+        };
+        let written = Written {
+            text,
+            all: in_form(with_all_tests(options), Format::Text),
+            raw: in_form(raw, Format::Text),
+            annotated: in_form(options, Format::Annotated { annotations }),
+            github: in_form(options, Format::Github { annotations }),
+            names: in_form(options, Format::Names),
+            junit: document(&end.files.junit),
+            html: document(&end.files.html),
+            markdown: document(&end.files.markdown),
+            others,
+            json: end.files.json.as_ref().map_or("", Json::as_str).to_string(),
+        };
+        (written, end)
+    }
+}
