@@ -4,11 +4,10 @@
 //! each. RATIO is the time of the call divided by the time of a pass. A pass searches the input
 //! for a byte that does not occur. For short outputs, the call extracts from many copies one by one,
 //! and a pass searches them one by one. For finished tests and for summaries, a pass reads each of
-//! them once. For reports of test runs, a pass reads each line with `serde_json`. GROWTH is the time
-//! of the call divided by its time at half the size. It has a limit only if the call takes a
-//! millisecond or more. VERDICT is `within`, or the limit that was exceeded. Each time is the
-//! shortest of 15 measurements. For the commands of `run-digest`, RATIO leaves out the time for
-//! reading the input. The last line says how many calls are within their limits.
+//! them once. GROWTH is the time of the call divided by its time at half the size. It has a limit
+//! only if the call takes a millisecond or more. VERDICT is `within`, or the limit that was exceeded.
+//! Each time is the shortest of 15 measurements. For the commands of `run-digest`, RATIO leaves out
+//! the time for reading the input. The last line says how many calls are within their limits.
 //!
 //! At the size `small` it makes the same calls on small inputs, and prints `NAME ok` for each row.
 //!
@@ -30,7 +29,6 @@ mod logs;
 mod report;
 mod rows;
 pub mod size;
-mod test_runs;
 mod timing;
 mod units;
 
@@ -78,7 +76,6 @@ pub fn measure_all<R: AllocGlobal + Clock + Print>(rt: &R, size: Size) -> io::Re
     measure(rt, &rows::short(), size, &mut tally)?;
     measure(rt, &rows::adverse(), size, &mut tally)?;
     measure(rt, &rows::counting(), size, &mut tally)?;
-    measure(rt, &rows::reports(), size, &mut tally)?;
     if size != Size::SMALL {
         println!(rt; "{} of {} rows within", tally.within, tally.rows)?;
     }

@@ -1,19 +1,29 @@
--- Lemmas on the caller of `test_report_run`.
-use Rattle.std.proofs.Common.{◌≡◌, ◌≤◌, ◌∙◌, ◌+◌, ◌<◌, ℕ, List, [], ◌∷◌, ◌++◌, Bor, ap, get_or, length, map, subst, sym, take}
-use Rattle.std.proofs.lemmas.List.{map-append, take_all, take_more}
+-- Lemmas on the callers of `test_report_run` and `test_report_laws`.
+use Rattle.std.proofs.Common.{◌≡◌, ◌==◌, ◌↔◌, ◌⊎◌, ◌≤◌, ◌∙◌, ◌+◌, ◌<◌, ℕ, List, [], ◌∷◌, ◌++◌, Bor, IsTrue, ap, arith, false, get_or, inl, inr, length, map, subst, sym, take, true≢false}
+use Rattle.std.proofs.lemmas.Bool.Decides.{nat_tests}
+use Rattle.std.proofs.lemmas.List.{append-nil, map-append, take_all, take_more}
+use Rattle.std.proofs.lemmas.List.Concat.{flat_map-append}
 use Rattle.std.proofs.lemmas.List.Sums.{fold-append}
-use Rattle.std.specs.List.{AllZip, fold}
+use Rattle.std.specs.List.{AllZip, flat_map}
+use Rattle.run_events_stats.specs.declared.outcome.run_outcome.RunOutcome.{RunOutcome}
+use Rattle.run_events_stats.specs.declared.outcome.run_outcome.RunOutcome.TheVariants.{NoTestsRun, Success}
 use Rattle.test_report_events.specs.Event.{EventView}
 use Rattle.test_report_events.specs.Line.{LineSays}
-use Rattle.test_report_run_notes.specs.declared.note.RunEnd.{RunEnd}
-use Rattle.test_report_run.specs.FileEnd.{after_file, end_of}
-use Rattle.test_report_run.specs.Run.{RunState, run_after, run_settings, run_start}
+use Rattle.test_report_run.specs.Run.{RunState, after, run_after, run_settings, run_start}
+
+-- the run before its first line
+abbrev start : RunState
+start = run_start (run_settings 60000000 [])
+
+-- all events of lines
+abbrev in_order : List (List EventView) → List EventView
+in_order events = flat_map (λ line. line) events
 
 -- these lines have events, and this is the run after these events
 pub record IsRunOf (lines : List (List ℕ)) (run : RunState) : Type 0 where
   pub events : List (List EventView)
   pub say : AllZip LineSays lines events
-  pub is : run ≡ fold run_after (run_start (run_settings 60000000 [])) events
+  pub is : run ≡ run_after start (in_order events)
 
 -- one more line, and its events
 says-more : (lines : List (List ℕ)) (events : List (List EventView)) (line : List ℕ) (own : List EventView) → AllZip LineSays lines events → LineSays line own
@@ -22,6 +32,12 @@ says-more [] [] line own p q = (q, tt)
 says-more [] (e ∷ es) line own p q = absurd p
 says-more (l ∷ ls) [] line own p q = absurd p
 says-more (l ∷ ls) (e ∷ es) line own p q = (p.0, says-more ls es line own p.1 q)
+
+after-more : (events : List (List EventView)) (own : List EventView)
+    → run_after start (in_order (events ++ own ∷ [])) ≡ run_after (run_after start (in_order events)) own
+after-more events own =
+    ap (run_after start) (flat_map-append (λ line. line) events (own ∷ []) ∙ ap (λ more. in_order events ++ more) (append-nil own))
+    ∙ fold-append after start (in_order events) own
 
 -- the run after one more of these lines
 pub run-more : (lines : List (Bor (List ℕ))) (i : ℕ) (d : Bor (List ℕ)) (own : List EventView) (old new : RunState) → i < length lines
@@ -35,16 +51,21 @@ run-more lines i d own old new few run says step =
       say =
           subst (λ ls. AllZip LineSays ls (run.events ++ own ∷ [])) (sym seen)
           (says-more (map (λ l. l.now) (take i lines)) run.events line.now own run.say says);
-      is = step ∙ ap (λ r. run_after r own) run.is ∙ sym (fold-append run_after (run_start (run_settings 60000000 [])) run.events (own ∷ []));
+      is = step ∙ ap (λ r. run_after r own) run.is ∙ sym (after-more run.events own);
     }
 
--- the end of the run after all of these lines
-pub run-ends : (lines : List (Bor (List ℕ))) (i : ℕ) (run over : RunState) (end : RunEnd) → length lines ≤ i
-    → IsRunOf (map (λ l. l.now) (take i lines)) run → over ≡ after_file run → end ≡ end_of over
-    → (events : List (List EventView)) × AllZip LineSays (map (λ l. l.now) lines) events
-    × (end ≡ end_of (after_file (fold run_after (run_start (run_settings 60000000 [])) events)))
-run-ends lines i run over end all of takes is = (
-  of.events,
-  subst (λ ls. AllZip LineSays (map (λ l. l.now) ls) of.events) (take_all i lines all) of.say,
-  is ∙ ap end_of (takes ∙ ap after_file of.is),
+-- the run after all of these lines
+pub run-of-all : (lines : List (Bor (List ℕ))) (i : ℕ) (run : RunState) → length lines ≤ i → IsRunOf (map (λ l. l.now) (take i lines)) run
+    → IsRunOf (map (λ l. l.now) lines) run
+run-of-all lines i run all of = subst (λ ls. IsRunOf (map (λ l. l.now) ls) run) (take_all i lines all) of
+
+-- the exit status is 0 if and only if the run succeeded, if no test must have run
+pub status-is : (status : ℕ) (of is : RunOutcome) → of ≡ is → (status ≡ 0) ↔ ((of ≡ Success) ⊎ ((of ≡ NoTestsRun) × IsTrue false))
+    → IsTrue (status == 0) ↔ (is ≡ Success)
+status-is status of is same zero = (
+  λ yes. elim (zero.0 (grind (arith, nat_tests, yes))) as (λ _. is ≡ Success) [
+    | inl success ↦ sym same ∙ success
+    | inr none ↦ absurd (true≢false (sym none.1))
+  ],
+  λ success. grind (arith, nat_tests, zero.1 (inl (same ∙ success))),
 )

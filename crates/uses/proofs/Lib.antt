@@ -2,4 +2,3 @@ pub mod DisplayerLemmas
 pub mod EndOfLines
 pub mod Lists
 pub mod RunnerLemmas
-pub mod WholeReports

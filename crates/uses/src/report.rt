@@ -1,10 +1,10 @@
 //! Examples of use of the report's libraries. The example in the page CALLING.md of a library is in the
 //! file `of_LIBRARY.rt`. The program `callers` runs them, each on a small input.
 
+mod of_report_templates;
+mod of_report_text;
 mod of_template;
-mod of_test_report_engine;
 mod of_test_report_events;
-mod of_test_report_forms;
 mod of_test_report_laws;
 mod of_test_report_run;
 mod pages;
@@ -14,6 +14,5 @@ use std::io;
 /// Runs all examples, and prints what they return.
 pub fn run<R: AllocGlobal + Print>(rt: &R) -> io::Result<()> {
     println!(rt; "callers of the report")?;
-    pages::show_parts(rt)?;
-    pages::show_reports(rt)
+    pages::show(rt)
 }

@@ -6,7 +6,6 @@ use crate::bench::extraction::{Extraction, Streams};
 use crate::bench::inputs::Output;
 use crate::bench::rows::Kind;
 use crate::bench::size::Size;
-use crate::bench::test_runs::{Ending, TestRun};
 use crate::bench::timing::{Times, least_times};
 use crate::bench::units::{Counting, SubRuns, tests};
 use anyhow::Result;
@@ -22,7 +21,6 @@ pub(crate) fn times<R: AllocGlobal + Clock>(rt: &R, kind: &Kind, size: Size) -> 
         Kind::Count => of_count(rt, size),
         Kind::Units => of_units(rt, size),
         Kind::SubRuns => of_sub_runs(rt, size),
-        Kind::Report(ending) => of_report(rt, *ending, size),
     }
 }
 
@@ -79,12 +77,5 @@ fn of_units<R: AllocGlobal + Clock>(rt: &R, size: Size) -> Result<Times> {
 fn of_sub_runs<R: AllocGlobal + Clock>(rt: &R, size: Size) -> Result<Times> {
     let mut whole = SubRuns::new(rt.alloc(), size.share(500_000))?;
     let mut half = SubRuns::new(rt.alloc(), size.half().share(500_000))?;
-    least_times(rt, &mut whole, &mut half)
-}
-
-/// Returns the times of the report of a test run.
-fn of_report<R: AllocGlobal + Clock>(rt: &R, ending: Ending, size: Size) -> Result<Times> {
-    let mut whole = TestRun::new(rt.alloc(), ending, size)?;
-    let mut half = TestRun::new(rt.alloc(), ending, size.half())?;
     least_times(rt, &mut whole, &mut half)
 }

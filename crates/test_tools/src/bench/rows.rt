@@ -2,7 +2,6 @@
 
 use crate::bench::inputs::{Output, Place};
 use crate::bench::logs::{LINE, LOG, QUOTELESS_LOG, TRUE_LINE, TWO_LINES};
-use crate::bench::test_runs::Ending;
 
 /// The call that is measured.
 #[derive(Clone, Copy)]
@@ -28,9 +27,6 @@ pub(crate) enum Kind {
 
     /// The outcome of sub-runs.
     SubRuns,
-
-    /// The report of a test run whose tests all end in this way.
-    Report(Ending),
 }
 
 /// A row: its name, the highest ratio that is within the limit, in thousandths, and the call. With
@@ -149,13 +145,5 @@ pub(crate) fn counting() -> [Row; 3] {
         ("units", None, Kind::Units),
         ("sub-runs", None, Kind::SubRuns),
         ("engine-count", None, Kind::Count),
-    ]
-}
-
-/// The rows of reports.
-pub(crate) fn reports() -> [Row; 2] {
-    [
-        ("report-passed", Some(1_500), Kind::Report(Ending::Passed)),
-        ("report-failed", Some(1_500), Kind::Report(Ending::Failed)),
     ]
 }

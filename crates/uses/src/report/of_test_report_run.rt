@@ -1,7 +1,7 @@
 //! The caller that the page on calling `test_report_run` shows.
 
-ghost use Rattle.std.specs.Prelude.{◌≡◌, [], IfOk, List, map};
-ghost use Rattle.std.specs.List.{AllZip, fold};
+ghost use Rattle.std.specs.Prelude.{◌≡◌, [], IfOk, List, flat_map, map};
+ghost use Rattle.std.specs.List.{AllZip};
 ghost use Rattle.test_report_events.specs.Event.{EventView};
 ghost use Rattle.test_report_events.specs.Line.{LineSays};
 ghost use Rattle.test_report_run.specs.FileEnd.{after_file, end_of};
@@ -17,13 +17,13 @@ use test_report_run_notes::note::RunEnd;
 pub fn end_of_lines(alloc: Global, lines: &[&[u8]]) -> Result<RunEnd, RunError>
     ensures { IfOk result (λ end. (events : List (List EventView))
         × AllZip LineSays (map (λ line. line.now) lines.now) events
-        × (end ≡ end_of (after_file (fold run_after (run_start (run_settings 60000000 [])) events)))) }
+        × (end ≡ end_of (after_file (run_after (run_start (run_settings 60000000 [])) (flat_map (λ line. line) events))))) }
 {
     let mut run = TestRun::new(alloc, 60_000_000);
     for bytes in lines {
         let line = Line::read(alloc, bytes)?;
         run.on_line(alloc, &line)?;
     }
-    run.end_file(alloc)?;
-    Ok(run.end())
+    let finished = run.finish(alloc, None, false)?;
+    Ok(finished.end)
 }

@@ -1,15 +1,15 @@
 -- The paragraph is one tree, in which the name is data.
 use Rattle.std.proofs.Common.{true, ◌≡◌, ◌∙◌, refl, sym, ap, ℕ, List, [], ◌∷◌, ◌++◌, append_assoc, codes, map, string_bytes, Some}
+use Rattle.std.proofs.lemmas.List.{append-nil}
 use Rattle.std.specs.List.{fold}
 use Rattle.std.specs.Option.{option_map}
 use Rattle.std.specs.Str.{chars}
 use Rattle.std.specs.Char.{encode_utf8}
-use Rattle.template.proofs.Data.{more-data}
 use Rattle.template.proofs.Document.{renders_one_tree}
 use Rattle.template.specs.Document.{filled_tree, is_document}
 use Rattle.template.specs.Filled.{read_part, read_parts}
 use Rattle.template.specs.Parse.{parse}
-use Rattle.template.specs.Reader.{Content, Open, read_tree, step, whole}
+use Rattle.template.specs.Reader.{Content, Open, read_tree, step, whole, with_byte}
 use Rattle.template.specs.Shown.{shown}
 use Rattle.template.specs.Template.{HolePart, NoParts, NoValues, OnePart, OneValue, Parts, TextPart, TextValue, Values, parts_text, parts_view, value_view, values_of}
 use Rattle.template.specs.Tree.{ElementTree, NoTrees, OneTree, TextTree, TreeView}
@@ -32,6 +32,11 @@ is-page = refl
 one-element : is_document page ≡ true
 unfolding is_document step chars encode_utf8
 one-element = refl
+
+-- data after a text is more of this text
+more-data : (bytes text : List ℕ) (trees : List TreeView) → fold with_byte (TextTree text ∷ trees) bytes ≡ TextTree (text ++ bytes) ∷ trees
+more-data [] text trees = ap (λ t. TextTree t ∷ trees) (sym (append-nil text))
+more-data (b ∷ bytes) text trees = more-data bytes (text ++ b ∷ []) trees ∙ ap (λ t. TextTree t ∷ trees) (append_assoc text (b ∷ []) bytes)
 
 -- the tree
 abbrev paragraph : List ℕ → TreeView

@@ -1,4 +1,6 @@
-use Rattle.uses.proofs.EndOfLines.{run-ends, run-more}
+use Rattle.std.proofs.Common.{◌∙◌, ap}
+use Rattle.test_report_run.specs.FileEnd.{after_file, end_of}
+use Rattle.uses.proofs.EndOfLines.{run-more, run-of-all}
 use Rattle.uses.proofs.report.of_test_report_run.end_of_lines.Goals as goal
 
 pub loop-bytes-preserved : goal.loop-bytes-preserved
@@ -8,4 +10,5 @@ loop-bytes-preserved c =
 
 pub returns : goal.returns
 returns c =
-    run-ends c.args.lines.now c.loop-bytes.bytes-index _ _ _ c.loop-bytes-test.false c.loop-bytes.invariant c.in_ok-end_file.ensures.takes c.end.ensures
+    let run = run-of-all c.args.lines.now c.loop-bytes.bytes-index _ c.loop-bytes-test.false c.loop-bytes.invariant in
+    (run.events, run.say, c.in_ok-finished.ensures.sums ∙ ap end_of (c.in_ok-finished.ensures.takes ∙ ap after_file run.is))
