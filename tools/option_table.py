@@ -24,11 +24,10 @@ class Parts:
 class Row:
     """One run of the program. The folder in which it runs is empty but for `files` and `links`.
 
-    `stdout` and `stderr` are what it must write: a text, or some parts. The program that cargo builds may add the
-    system's error to a message in `stderr`. `after` has what files must be there at the end: a text, some parts, or
-    `None` for no file. `output` says what standard output is: `pipe`, `terminal`, `closed`, or the path of a file.
-    `error` says the same of standard error. Standard input is a pipe with `text`; or, if `source` is given, the file of
-    this name; or `closed`.
+    `stdout` and `stderr` are what it must write: a text, or some parts. The program may add the system's error to a
+    message in `stderr`. `after` has what files must be there at the end: a text, some parts, or `None` for no file.
+    `output` says what standard output is: `pipe`, `terminal`, `closed`, or the path of a file. `error` says the same of
+    standard error. Standard input is a pipe with `text`; or, if `source` is given, the file of this name; or `closed`.
     """
 
     name: str
@@ -50,8 +49,6 @@ class Row:
     late_links: dict = field(default_factory=dict)
     # If this is false, the program cannot write a byte to any file.
     has_space: bool = True
-    # If this is true, the program runs a command, which the proved program cannot.
-    runs_command: bool = False
 
 
 def started(count):
@@ -632,7 +629,7 @@ def command(words, status=0, stdout="", stderr="", options=(), **others):
     words = words if isinstance(words, list) else ["sh", "-c", words]
     files = {**RUNS, **others.pop("files", {})}
     return Row(f"the command {words}, {options}, {others}", [*options, "--", *words], others.pop("text", ""), status,
-               stdout, stderr, files, runs_command=True, **others)
+               stdout, stderr, files, **others)
 
 
 def commands():

@@ -1,9 +1,6 @@
 """Damage to an input: lines and bytes that are lost, repeated, moved or changed."""
 
-import json
-
 BYTES = b'"{}[]#:, \\0179-\n\r\t\x00\x1b\x7f\xff\xc3'
-VALUES = [None, True, 0, 1, -1, 2.5, 10**20, "", "failed", "ok", [], {}, ["x"], "test", "suite"]
 
 
 def lose_lines(rng, lines, _pool):
@@ -51,30 +48,7 @@ def change_bytes(rng, lines, _pool):
         lines[place] = line[:at] + rng.choice([byte, byte, b""]) + line[at + rng.randrange(2):]
 
 
-def change_member(rng, lines, _pool):
-    """Gives a member of an object another value, or removes or repeats the member."""
-    place = rng.randrange(len(lines))
-    try:
-        event = json.loads(lines[place])
-    except ValueError:
-        return
-    if not isinstance(event, dict) or not event:
-        return
-    key = rng.choice(list(event))
-    how = rng.randrange(3)
-    if how == 0:
-        event[key] = rng.choice(VALUES)
-    elif how == 1:
-        del event[key]
-    text = json.dumps(event, separators=(",", ":")).encode()
-    if how == 2:
-        member = json.dumps({key: rng.choice(VALUES)})[1:-1].encode()
-        text = text[:-1] + b"," + member + b"}"
-    lines[place] = text
-
-
-STEPS = [lose_lines, repeat_line, borrow_line, swap_lines, cut_line, join_lines, change_bytes, change_bytes,
-         change_member, change_member]
+STEPS = [lose_lines, repeat_line, borrow_line, swap_lines, cut_line, join_lines, change_bytes, change_bytes]
 
 
 def damaged(rng, text, pool):

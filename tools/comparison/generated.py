@@ -1,6 +1,5 @@
-"""Inputs for the programs, made from a random generator: the same for the same seed."""
+"""Inputs for `run-digest`, made from a random generator: the same for the same seed."""
 
-import json
 import re
 from pathlib import Path
 
@@ -18,32 +17,6 @@ PIECES = [
     b"\xd9\xa3", b"\xf0\x9d\x9f\x98", b"\xef\xbc\x91", b"(", b")", b"a", b"row of a report\n",
     b"\xc3\xa9", b"\xff", b"\xc3", b"\xed\xa0\x80", b"\xf0\x9f\x98", b"\x00", b"\x1b[31m",
     b"\xc2\x9b",
-]
-NAMES = [
-    "adds", "parses", "money::rounds", "ledger::ledger$pays", "a b", "issue #12", "", "caf\u00e9",
-    "x" * 300, "\u001b[2J", "tab\there", "two\nlines", "a#b", "\u202eevil",
-]
-ATTEMPTS = [
-    "", "", "", "", "", "", "#1", "#2", "#3", "#0", "#02", "#+2", "#", "#2#3", "#18446744073709551615",
-    "#18446744073709551616", "#\u0662",
-]
-KEYS = [
-    {"crate": "ledger", "test_binary": "ledger"}, {"crate": "ledger", "test_binary": "pays"},
-    {"crate": "ledger", "test_binary": "ledger", "stress_index": 0}, {"crate": "ledger"}, "ledger",
-]
-RESULTS_OF_TESTS = ["ok", "ok", "failed", "failed", "ignored"]
-MEMBERS = ["stdout", "stdout", "stdout", "message", "reason", "exec_time", "extra"]
-PRINTED = [
-    "", "{}", "null", "[1]", "1", '"type"', "running 3 tests", '{"type":"test"}',
-    '{ "type": "report" }', '{"type":"suite","event":"discovery"}',
-    '{"type":"test","event":"ok","name":"ghost"}', "{", "[" * 200,
-    '{"type":"test","event":"failed","name":"ghost"}', '{"type":"suite","event":"failed","passed":1}',
-    "     Running unittests src/lib.rs (target/debug/deps/ledger-0123456789abcdef)",
-    "\u001b[1m\u001b[32m     Running\u001b[0m tests/pays.rs (target\\debug\\deps\\pays-fedcba9876543210.exe)",
-    "   Doc-tests ledger", "error: could not compile `ledger` (lib) due to 1 previous error",
-    "error: test failed, to rerun pass `-p ledger --lib`", "\u001b[31merror\u001b[0m: 2 targets failed:",
-    "error: 1 target failed:", "error: test run failed", "Caused by:",
-    "  process didn't exit successfully: `ledger` (signal: 6, SIGABRT: process abort signal)",
 ]
 
 
@@ -89,94 +62,3 @@ def output(rng):
     if rng.random() < 0.2:
         pieces.append(bytes(rng.randrange(256) for _ in range(rng.randrange(8))))
     return b"".join(pieces)
-
-
-def test_end(rng, name, results):
-    """Returns the object of a test's end, with members that say why it failed."""
-    event = {"type": "test", "event": rng.choice(results), "name": name}
-    for member in rng.sample(MEMBERS, rng.randrange(3)):
-        event[member] = output(rng).decode("utf-8", "replace")
-    if "reason" in event and rng.random() < 0.7:
-        event["reason"] = "time limit exceeded"
-    if "exec_time" in event:
-        event["exec_time"] = rng.choice([0.5, 0, 1e-7, 31])
-    return event
-
-
-def test_events(rng, results):
-    """Returns the objects of one test: its start and its end, or one of them, or a third one."""
-    name = rng.choice(NAMES) + str(rng.randrange(100))
-    start = {"type": "test", "event": "started", "name": name}
-    slow = {"type": "test", "event": "timeout", "name": name}
-    end = test_end(rng, name + rng.choice(ATTEMPTS), results)
-    kind = rng.random()
-    if kind < 0.85:
-        return [start, end]
-    if kind < 0.9:
-        return [start, slow, end]
-    if kind < 0.93:
-        return [{"type": "bench", "name": name, "median": 5, "deviation": 1}]
-    return rng.choice([[start], [end], [start, start, end], [start, end, end]])
-
-
-def merged(rng, tests):
-    """Returns the objects of tests that run side by side, those of each test in their order."""
-    events = []
-    while tests:
-        test = rng.choice(tests)
-        events.append(test.pop(0))
-        tests = [left for left in tests if left]
-    return events
-
-
-def last_line(rng, events):
-    """Returns the object of a suite's end, whose numbers are mostly those of its events."""
-    ended = [event["event"] for event in events if event.get("name") and event.get("event") in RESULTS_OF_TESTS]
-    names = {"passed": "ok", "failed": "failed", "ignored": "ignored"}
-    numbers = {name: ended.count(word) for name, word in names.items()} | {"measured": 0}
-    if rng.random() < 0.2:
-        numbers[rng.choice(list(numbers))] = rng.choice([0, 1, 2, 3, -1, 2.5, "1"])
-    if rng.random() < 0.1:
-        del numbers[rng.choice(list(numbers))]
-    verdict = "failed" if "failed" in ended else "ok"
-    if rng.random() < 0.1:
-        verdict = rng.choice(["ok", "failed"])
-    times = {"exec_time": rng.choice([0.5, 0, 1e-7, 31, 0.0000019])} if rng.random() < 0.5 else {}
-    return {"type": "suite", "event": verdict} | numbers | times
-
-
-def suite_events(rng):
-    """Returns the objects of a suite, of which the first or the last may be absent."""
-    results = rng.choice([["ok"], ["ok", "ok", "ok", "ignored"], RESULTS_OF_TESTS])
-    tests = [test_events(rng, results) for _ in range(rng.randrange(8))]
-    count = len(tests) if rng.random() < 0.8 else rng.randrange(12)
-    key = {"nextest": rng.choice(KEYS)} if rng.random() < 0.4 else {}
-    events = merged(rng, tests)
-    end = last_line(rng, events)
-    if rng.random() < 0.95:
-        events.insert(0, {"type": "suite", "event": "started", "test_count": count} | key)
-    if rng.random() < 0.9:
-        events.append(end | key)
-    return events
-
-
-def event_line(rng, event):
-    """Returns the line of an object, as the harness or nextest writes it, or after printed text."""
-    separators = rng.choice([(", ", ": "), (",", ":")])
-    text = json.dumps(event, ensure_ascii=rng.random() < 0.3, separators=separators)
-    if rng.random() < 0.3:
-        text = "{ " + text[1:-1] + " }"
-    return rng.choice(["printed ", "{", "\u00e9"]) + text if rng.random() < 0.04 else text
-
-
-def reported_run(rng):
-    """Returns an input of `test-report`."""
-    suites = [suite_events(rng) for _ in range(rng.choice([0, 1, 1, 1, 2, 3]))]
-    if rng.random() < 0.3:
-        suites = [merged(rng, suites)]
-    lines = [event_line(rng, event) for suite in suites for event in suite]
-    for _ in range(rng.choice([0, 0, 1, 3])):
-        lines.insert(rng.randrange(len(lines) + 1), rng.choice(PRINTED))
-    line_feed = rng.choice(["\n", "\n", "\r\n"])
-    text = line_feed.join(lines) + rng.choice([line_feed, line_feed, ""])
-    return text.encode("utf-8", "replace")

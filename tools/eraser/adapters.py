@@ -21,7 +21,7 @@ def _rename_methods(source, name):
             source.new[source.after(function.fn_token)] = RENAMED_METHODS[function.path]
     calls = RENAMED_CALLS_OF.get(name, {})
     for i in source.code:
-        if source.at(source.before(i)) == "." and source.reads(source.after(i), "(", ")"):
+        if source.at(source.before(i)) == "." and source.at(source.after(i)) == "(":
             source.new[i] = calls.get(source.text[i], source.text[i])
 
 

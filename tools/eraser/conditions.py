@@ -163,12 +163,6 @@ CONDITIONS = {
     },
     "run_digest_engine/src/count.rt": {"count": Elsewhere(FAILED_DEVICE)},
     "run_digest_engine/src/extract.rt": {"extract": Elsewhere(FAILED_DEVICE)},
-    "test_report_engine/src/report.rt": {
-        "Report::read_file": Elsewhere(FAILED_DEVICE),
-        "Report::read_piece": Elsewhere(FAILED_DEVICE),
-        "Report::end_command": Elsewhere(FAILED_DEVICE),
-        "Report::finish": Elsewhere(FAILED_DEVICE),
-    },
 }
 
 

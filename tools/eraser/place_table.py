@@ -82,9 +82,23 @@ pub struct ExecutionStatusesIter<'a, S: OutputSpec> {
         }
     }""",
     ),
+    # A text that notes that memory ran out is a String.
+    (
+        "report_text/src/command.rt",
+        "if !text.starts_line() {",
+        "if !text.is_empty() && !text.ends_with('\\n') {",
+    ),
+    ("report_text/src/line.rt", "text.add_escape(c);", "text.extend(c.escape_unicode());"),
+    (
+        "report_text/src/text.rt",
+        """let taken = self.text.take()?;
+        self.line = line_start();
+        Ok(taken)""",
+        """self.line = line_start();
+        Ok(std::mem::take(&mut self.text))""",
+    ),
+    ("report_text/src/text.rt", "let ReportText { text, .. } = self; Ok(text.end()?)", "Ok(self.text)"),
     # A value leaves a box by `*`.
-    ("test_report_forms/src/junit_values.rt", "Box::into_inner(place)", "*place"),
-    ("test_report_forms/src/junit_values.rt", "Box::into_inner(reason)", "*reason"),
     ("test_report_run/src/run.rt", "Box::into_inner(suite)", "*suite"),
     ("test_report_run/src/open_suites/changes.rt", "Box::into_inner(self.list.remove(at))", "*self.list.remove(at)"),
     # The crate's own moments are made otherwise.

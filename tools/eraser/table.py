@@ -1,6 +1,7 @@
 """The packages in rust/, and the names that are others there."""
 
 LAYER = "deodarsieve"
+RUN = "deodarsieve-run"
 
 # The packages in rust/, each with the crates that become modules of it.
 PACKAGES = {
@@ -9,15 +10,17 @@ PACKAGES = {
         "run_events_attempts", "run_events_stats", "run_events_stress", "run_events",
     ),
     "deodarsieve-cli": (
-        "program_io", "run_digest_engine", "template", "test_report_events", "test_report_run_notes",
-        "test_report_run", "test_report_forms", "test_report_engine",
+        "program_io", "run_digest_engine", "report_text", "template", "report_templates",
     ),
+    RUN: ("test_report_events", "test_report_run_notes", "test_report_run"),
     "deodarsieve-c": ("c_values", "deodarsieve"),
     "deodarsieve-tests": (
         "test_tools",
     ),
 }
-FOLDERS = {LAYER: "deodarsieve", "deodarsieve-cli": "cli", "deodarsieve-c": "c", "deodarsieve-tests": "tests"}
+FOLDERS = {
+    LAYER: "deodarsieve", RUN: "run", "deodarsieve-cli": "cli", "deodarsieve-c": "c", "deodarsieve-tests": "tests",
+}
 PACKAGE_OF = {crate: package for package, crates in PACKAGES.items() for crate in crates}
 
 # Crates of which only these modules are in plain Rust. They are modules of the package itself.
@@ -26,16 +29,17 @@ PARTS = {"test_tools": ("fixtures",)}
 # The path of a crate's modules in its package.
 PATH_OF = {crate: ["exports" if crate == "deodarsieve" else crate] for crate in PACKAGE_OF if crate not in PARTS}
 PATH_OF |= {crate: [] for crate in PARTS}
+PATH_OF |= {"test_report_events": ["events"], "test_report_run_notes": ["notes"], "test_report_run": ["run"]}
 
 # The packages that are published.
-PUBLISHED = (LAYER, "deodarsieve-cli", "deodarsieve-c")
+PUBLISHED = (LAYER, RUN, "deodarsieve-cli", "deodarsieve-c")
 
 # Files that are written by hand in the package.
 BY_HAND = ("run_events_attempts/src/moment.rt",)
 
-# Modules that plain Rust does not have: laws, which are for proofs, and the callers that the pages CALLING.md
-# show, which are examples of contracts.
-NOT_IN_PLAIN_RUST = ("laws", "callers")
+# Modules that plain Rust does not have: laws, which are for proofs, the callers that the pages CALLING.md show, which
+# are examples of contracts, and the text that notes that memory ran out, which is a String.
+NOT_IN_PLAIN_RUST = ("laws", "callers", "noted_text")
 
 ATTRIBUTES = ("inline", "default", "derive", "test", "cfg", "repr", "unsafe")
 MACROS = (
@@ -81,7 +85,7 @@ RENAMED_PATHS = {
 NAMES_BY_HAND = ("Moment", "is_decimal_digit")
 
 # Names of imports that are another text in Rust.
-NAMES_OF_IMPORTS = {"std::test::Fail": "Box<dyn std::error::Error>"}
+NAMES_OF_IMPORTS = {"std::test::Fail": "Box<dyn std::error::Error>", "crate::noted_text::NotedText": "String"}
 
 # Traits, whose methods are called without their names. An import stays if one of them is called. Where two
 # traits have the method, the name of the value is before a dot.

@@ -8,7 +8,7 @@ import re
 # These ghost members define how contracts see a value. They are no promises, so they need no row.
 VIEWS = {
     "Value", "view", "invariant", "inverse", "size", "size_decreases", "laws", "remaining",
-    "bytes", "count", "left", "failed", "written", "flushed", "Knows",
+    "bytes", "count", "left", "failed", "written", "flushed",
 }
 # The crate whose promises a section has if its head names none, and the crate of examples, whose
 # functions every section may name.

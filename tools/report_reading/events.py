@@ -270,6 +270,6 @@ def line_events(line):
 
 
 def events_of(data):
-    """Yields the events of a file's bytes, one after another."""
+    """Yields the events of each line of a file's bytes, as a list."""
     for line in filter(None, data.split(b"\n")):
-        yield from filter(None, line_events(line))
+        yield list(filter(None, line_events(line)))

@@ -20,6 +20,11 @@ class Cause:
     is_disagreement: bool
 
 
+def is_not_run(note):
+    """Returns true for the line of a suite whose tests were not all run."""
+    return isinstance(note, Cause) and not note.is_disagreement
+
+
 class Run:
     """The run in the files that were read. `notes` has the failed tests and the causes in the order of the report."""
 
@@ -47,9 +52,13 @@ class Run:
         """Takes the bytes of a file with this name."""
         self.now = OpenSuites()
         self.explained_before_file = self.explained_before_failure = self.explanations
-        for event in events_of(data):
-            self.now.has_event |= not isinstance(event, (Heading, CargoFailure, Damage))
-            self.takes[type(event)](event)
+        for events in events_of(data):
+            known = len(self.notes)
+            for event in events:
+                self.now.has_event |= not isinstance(event, (Heading, CargoFailure, Damage))
+                self.takes[type(event)](event)
+            # Tests that were not run come after what the rest of the line makes known.
+            self.notes[known:] = sorted(self.notes[known:], key=is_not_run)
         self.end_file(name)
 
     def end_file(self, name):

@@ -110,7 +110,7 @@ def differences(path):
     status = run.status(option(words, "--no-tests", "fail"))
     found = differing([str(status)], [stored(path, "status").strip() or "0"], "status")
     form, report = option(words, "--format", "text"), stored(path, "stdout")
-    if form == "text":
+    if form == "text" and option(words, "--annotations", "auto") != "github":
         found += text_differences(run, plain(report, words), words)
     return found
 

@@ -1,5 +1,5 @@
-use deodarsieve_cli::test_report_events::event::Event;
-use deodarsieve_cli::test_report_events::line::Line;
+use deodarsieve_run::Event;
+use deodarsieve_run::Line;
 
 fn test_count_of(bytes: &[u8]) -> Option<u64> {
     let line = Line::read(bytes);

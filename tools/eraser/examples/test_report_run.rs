@@ -1,7 +1,7 @@
-use deodarsieve_cli::test_report_events::line::Line;
-use deodarsieve_cli::test_report_run::error::RunError;
-use deodarsieve_cli::test_report_run::run::TestRun;
-use deodarsieve_cli::test_report_run_notes::note::RunEnd;
+use deodarsieve_run::Line;
+use deodarsieve_run::RunError;
+use deodarsieve_run::TestRun;
+use deodarsieve_run::RunEnd;
 
 fn end_of_lines(lines: &[&[u8]]) -> Result<RunEnd, RunError> {
     let mut run = TestRun::new(60_000_000);
@@ -9,8 +9,8 @@ fn end_of_lines(lines: &[&[u8]]) -> Result<RunEnd, RunError> {
         let line = Line::read(bytes);
         run.on_line(&line)?;
     }
-    run.end_file()?;
-    Ok(run.end())
+    let finished = run.finish(None, false)?;
+    Ok(finished.end)
 }
 
 let end = end_of_lines(&[

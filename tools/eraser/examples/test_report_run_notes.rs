@@ -1,5 +1,5 @@
-use deodarsieve_cli::test_report_run::run::TestRun;
-use deodarsieve_cli::test_report_run_notes::note::{RunEnd, failed_count};
+use deodarsieve_run::TestRun;
+use deodarsieve_run::{RunEnd, failed_count};
 
 fn lacks_success(end: &RunEnd) -> bool {
     failed_count(&end.stats) > 0 || end.not_run > 0
