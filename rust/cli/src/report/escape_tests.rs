@@ -38,7 +38,7 @@ fn written(texts: &[&str]) -> String {
     String::from_utf8(bytes).expect("a text is UTF-8")
 }
 
-/// Returns all texts of three pieces, except those of which the type escapes more than this package.
+/// Returns all texts of three pieces. Texts with a mark that only the type escapes are left out.
 fn texts() -> impl Iterator<Item = String> {
     let count = PIECES.len();
     let texts = (0..count.pow(3)).map(move |number| {

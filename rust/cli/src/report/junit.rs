@@ -17,10 +17,9 @@ use crate::report::model::{
     CaseModel, FailedModel, FailedResult, ProblemModel, ReportModel, SuiteModel, TestKind,
     TestModel,
 };
-use crate::report::output::Document;
+use crate::report::output::{Document, Template};
 use crate::report::values::Values;
 use crate::report::words::suite_name;
-use crate::report_templates::JUNIT;
 use std::ops::AddAssign;
 
 /// The name of the run, and of the suite of problems that name no suite.
@@ -96,11 +95,9 @@ pub(crate) fn junit(mut model: ReportModel, no_tests_pass: bool) -> Document {
     for suite in suites {
         values = values.item("suite", suite_values(suite, &model));
     }
-    values.some("suite", own_suite(own)).rendered(
-        "<?xml version=\"1.0\" encoding=\"UTF-8\"?>\n",
-        JUNIT,
-        "\n",
-    )
+    values
+        .some("suite", own_suite(own))
+        .rendered(Template::Junit)
 }
 
 /// Returns the problems that name no suite, as test cases. That no test ran is the last one.

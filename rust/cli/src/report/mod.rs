@@ -64,13 +64,13 @@ pub enum Format {
 
     /// Text for people, with annotations of GitHub after the texts of a line of the run.
     Annotated {
-        /// The options of the annotations, of which only `limit` and `output` are used.
+        /// The options of the annotations. Only their `limit` and `output` are used.
         annotations: Options,
     },
 
     /// Annotations of GitHub.
     Github {
-        /// Their options, of which only `limit` and `output` are used.
+        /// Their options. Only `limit` and `output` are used.
         annotations: Options,
     },
 

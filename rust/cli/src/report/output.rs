@@ -1,6 +1,7 @@
 //! What standard output takes: no text goes there except through one of these types.
 
 use crate::report::escape;
+use crate::report_templates::{FAILED, JUNIT, MARKDOWN, PAGE};
 use crate::report_text::{Kind, Property, ReportText, Style};
 use crate::template::{Part, Value, parse_template, render};
 use serde::Serialize;
@@ -14,15 +15,19 @@ pub(crate) enum Text {
     /// It has no control character except line feeds, tabs and colours, and no command except those of this program.
     Safe(ReportText),
 
-    /// The outputs of tests in it are as they were. Only `--raw` makes such a text.
-    Raw(String),
+    /// The outputs of tests in it are as they were.
+    Raw(RawText),
 }
+
+/// A text with everything that the outputs of tests hold, control characters among it. Only `--raw` makes one.
+#[derive(Default)]
+pub(crate) struct RawText(String);
 
 impl Text {
     /// Returns an empty text.
     pub(crate) fn new(is_raw: bool) -> Text {
         if is_raw {
-            Text::Raw(String::new())
+            Text::Raw(RawText::default())
         } else {
             Text::Safe(ReportText::new())
         }
@@ -32,7 +37,7 @@ impl Text {
     pub(crate) fn is_empty(&self) -> bool {
         match self {
             Text::Safe(text) => text.is_empty(),
-            Text::Raw(text) => text.is_empty(),
+            Text::Raw(RawText(raw)) => raw.is_empty(),
         }
     }
 
@@ -40,7 +45,7 @@ impl Text {
     fn push_safe(&mut self, push: impl FnOnce(&mut ReportText)) {
         match self {
             Text::Safe(text) => push(text),
-            Text::Raw(raw) => {
+            Text::Raw(RawText(raw)) => {
                 let mut text = ReportText::new();
                 push(&mut text);
                 raw.push_str(&text.finish());
@@ -71,7 +76,7 @@ impl Text {
     pub(crate) fn push_input(&mut self, input: &str) {
         match self {
             Text::Safe(safe) => safe.push(&escape::text(input)),
-            Text::Raw(raw) => raw.push_str(input),
+            Text::Raw(RawText(raw)) => raw.push_str(input),
         }
     }
 
@@ -96,7 +101,7 @@ impl Text {
     fn push_lines(&mut self, lines: &mut String) {
         match self {
             Text::Safe(safe) => safe.push(lines),
-            Text::Raw(raw) => raw.push_str(lines),
+            Text::Raw(RawText(raw)) => raw.push_str(lines),
         }
         lines.clear();
     }
@@ -107,9 +112,41 @@ impl Text {
     pub(crate) fn write_to(&mut self, writer: &mut impl Write) -> io::Result<()> {
         let text = match self {
             Text::Safe(text) => text.take(),
-            Text::Raw(text) => std::mem::take(text),
+            Text::Raw(RawText(raw)) => std::mem::take(raw),
         };
         writer.write_all(text.as_bytes())
+    }
+}
+
+/// A template of `report_templates`. No value is markup in what it renders, which is proved.
+#[derive(Clone, Copy)]
+pub(crate) enum Template {
+    Page,
+    Junit,
+    Summary,
+
+    /// What the summary has of one failed test.
+    FailedTest,
+}
+
+impl Template {
+    /// Returns the line before the document, the template, and what follows the document.
+    fn texts(self) -> (&'static str, &'static str, &'static str) {
+        match self {
+            Template::Page => ("<!DOCTYPE html>\n", PAGE, "\n"),
+            Template::Junit => ("<?xml version=\"1.0\" encoding=\"UTF-8\"?>\n", JUNIT, "\n"),
+            Template::Summary => ("", MARKDOWN, ""),
+            Template::FailedTest => ("", FAILED, ""),
+        }
+    }
+
+    /// Returns the parts of the template. That each of these texts is a template is proved.
+    pub(crate) fn parts(self) -> Vec<Part> {
+        let (_, template, _) = self.texts();
+        match parse_template(template) {
+            Some(parts) => parts,
+            None => unreachable!("this is no template: {template}"),
+        }
     }
 }
 
@@ -119,15 +156,11 @@ pub struct Document {
 }
 
 impl Document {
-    /// Returns what a template of `report_templates` renders of values, after `head` and before `tail`.
-    pub(crate) fn rendered(
-        head: &'static str,
-        template: &'static str,
-        tail: &'static str,
-        values: &[Value],
-    ) -> Document {
+    /// Returns what a template renders of values.
+    pub(crate) fn rendered(template: Template, values: &[Value]) -> Document {
+        let (head, _, tail) = template.texts();
         let mut text = head.to_string();
-        render(&mut text, &parts_of(template), values);
+        render(&mut text, &template.parts(), values);
         text.push_str(tail);
         Document { text }
     }
@@ -142,14 +175,6 @@ impl Document {
     /// Fails if a write does.
     pub(crate) fn write_to(&self, writer: &mut impl Write) -> io::Result<()> {
         writer.write_all(self.text.as_bytes())
-    }
-}
-
-/// Returns the parts of a template of `report_templates`. That each of these is a template is proved.
-pub(crate) fn parts_of(template: &'static str) -> Vec<Part> {
-    match parse_template(template) {
-        Some(parts) => parts,
-        None => unreachable!("this is no template: {template}"),
     }
 }
 

@@ -28,10 +28,9 @@ use crate::report::model::{
     SuiteModel, TestKind, TestModel,
 };
 use crate::report::numbers::Numbers;
-use crate::report::output::{Document, parts_of};
+use crate::report::output::{Document, Template};
 use crate::report::whole_output::WholeOutput;
 use crate::report::words::{seconds_text, suite_name};
-use crate::report_templates::{FAILED, MARKDOWN, PAGE};
 use crate::template::{Value, push_item, push_section, push_text, render};
 
 /// The summary shows failed tests until their rows and details have this number of bytes. GitHub shows a summary of at
@@ -106,14 +105,9 @@ impl Values {
         )
     }
 
-    /// Returns what a template renders of the values, after `head` and before `tail`.
-    pub(crate) fn rendered(
-        &self,
-        head: &'static str,
-        template: &'static str,
-        tail: &'static str,
-    ) -> Document {
-        Document::rendered(head, template, tail, &self.0)
+    /// Returns what a template renders of the values.
+    pub(crate) fn rendered(&self, template: Template) -> Document {
+        Document::rendered(template, &self.0)
     }
 }
 
@@ -151,7 +145,7 @@ pub(crate) fn page(model: &ReportModel) -> Document {
                 .map(|(name, reason)| Values::of("name", name).text("reason", reason)),
         )
         .section("flaky_tests", "test", model.flaky.iter().map(flaky_values))
-        .rendered("<!DOCTYPE html>\n", PAGE, "\n")
+        .rendered(Template::Page)
 }
 
 /// Returns the summary of a report in Markdown. It has only the first of many failed tests.
@@ -174,12 +168,12 @@ pub(crate) fn summary(model: &ReportModel) -> Document {
         )
         .some("ran", outcome)
         .mark("no_tests", model.is_empty)
-        .rendered("", MARKDOWN, "")
+        .rendered(Template::Summary)
 }
 
 /// Returns the first failed tests, until their rows and details fill the summary.
 fn fitting(failures: &[Failure<'_>]) -> impl Iterator<Item = Values> {
-    let parts = parts_of(FAILED);
+    let parts = Template::FailedTest.parts();
     let mut room = MOST_BYTES;
     failures.iter().map_while(move |failure| {
         if room == 0 {
