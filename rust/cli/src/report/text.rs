@@ -14,12 +14,16 @@ use crate::report_text::Style;
 use deodarsieve::{FinalStatusLevel, OutputOnTestFinished, OutputStoreFinal};
 use deodarsieve_run::{Finish, RunEnd, TestNote, TestOutcome};
 use std::collections::BTreeMap;
+use std::iter::repeat_n;
 
 /// The number of spaces before each line of why a test failed.
 const MARGIN: usize = 4;
 
 /// The same in the list.
 const LIST_MARGIN: usize = 13;
+
+/// The room for a line. Most lines are shorter.
+const LINE: usize = 128;
 
 /// The column in which the status of a test in the list ends.
 const STATUS_WIDTH: usize = 12;
@@ -83,8 +87,7 @@ impl List {
     fn keep_time(&mut self, test: &TestNote, options: Options) {
         self.slowest.add(test.time, || {
             let mut line = Text::new(options.raw);
-            push_line("SLOWEST", test, STATUS_WIDTH, options, &mut line);
-            line.push("\n");
+            push_line("SLOWEST", test, STATUS_WIDTH, "\n", options, &mut line);
             line
         });
     }
@@ -132,11 +135,11 @@ impl TextForm {
         let (status, finish) = (failed_status(kind), Finish::of_failure(kind));
         let shows = finished_output(options, finish, test);
         if has_line(shows) {
-            push_line(status, test, 0, options, text);
-            if test.attempts > 1 {
-                text.push(&format!(" ({} attempts)", test.attempts));
-            }
-            text.push("\n");
+            let attempts = match test.attempts {
+                0 | 1 => "\n".to_string(),
+                attempts => format!(" ({attempts} attempts)\n"),
+            };
+            push_line(status, test, 0, &attempts, options, text);
         }
         if shows.show_immediate {
             push_why(failure, MARGIN, options, text);
@@ -146,8 +149,7 @@ impl TextForm {
             return;
         };
         if let Some(part) = self.list.part(final_level(finish, test), 0, options.raw) {
-            push_line(status, test, STATUS_WIDTH, options, part);
-            part.push(": ");
+            push_line(status, test, STATUS_WIDTH, ": ", options, part);
             part.push_input(front(&failure.short, options.limit));
             part.push("\n");
             if display_output {
@@ -173,8 +175,7 @@ impl TextForm {
                 0 | 1 if test.slow => "SLOW".to_string(),
                 _ => passed_status(test),
             };
-            push_line(&status, test, STATUS_WIDTH, options, part);
-            part.push("\n");
+            push_line(&status, test, STATUS_WIDTH, "\n", options, part);
             if display_output {
                 push_output(test, LIST_MARGIN, options, part);
             }
@@ -186,12 +187,17 @@ impl TextForm {
         let options = self.options;
         let shows = skipped_output(options, test);
         if has_line(shows) {
-            push_line("SKIP", test, 0, options, text);
-            text.push("\n");
+            push_line("SKIP", test, 0, "\n", options, text);
         }
         if let OutputStoreFinal::Yes { .. } = shows.store_final {
-            push_line("SKIP", test, STATUS_WIDTH, options, &mut self.list.skipped);
-            self.list.skipped.push("\n");
+            push_line(
+                "SKIP",
+                test,
+                STATUS_WIDTH,
+                "\n",
+                options,
+                &mut self.list.skipped,
+            );
         }
     }
 }
@@ -204,17 +210,25 @@ fn push_passed(test: &TestNote, options: Options, text: &mut Text) {
         ..shows
     };
     if has_line(shows) {
-        push_line(&passed_status(test), test, 0, options, text);
-        text.push("\n");
+        push_line(&passed_status(test), test, 0, "\n", options, text);
     }
     if shows.show_immediate {
         push_output(test, MARGIN, options, text);
     }
 }
 
-/// Appends the status, the time and the name of a test. The status ends in the column `width`.
-fn push_line(status: &str, test: &TestNote, width: usize, options: Options, text: &mut Text) {
-    let mut line = " ".repeat(width.saturating_sub(status.len()));
+/// Appends the status, the time and the name of a test, and after these a text of the report. The status ends in the
+/// column `width`.
+fn push_line(
+    status: &str,
+    test: &TestNote,
+    width: usize,
+    end: &str,
+    options: Options,
+    text: &mut Text,
+) {
+    let mut line = String::with_capacity(LINE);
+    line.extend(repeat_n(' ', width.saturating_sub(status.len())));
     if options.color {
         text.push(&line);
         text.push_styled(status, style_of(status));
@@ -224,6 +238,7 @@ fn push_line(status: &str, test: &TestNote, width: usize, options: Options, text
     }
     line.push(' ');
     push_time_and_title(&mut line, test);
+    line.push_str(end);
     text.push(&line);
 }
 
