@@ -145,7 +145,7 @@ struct Interrupted<T> {
 }
 
 impl<T> Interrupted<T> {
-    /// Makes a device of which the first call is interrupted.
+    /// Makes a device whose first call is interrupted.
     fn new(device: T) -> Interrupted<T> {
         Interrupted {
             device,

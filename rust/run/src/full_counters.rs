@@ -1,4 +1,5 @@
-//! Counters that are full. No run that can be read has so many tests, so notes stand for its suites.
+//! What happens if a counter is at its maximum. No input is long enough for that, so these tests add the numbers of
+//! whole suites.
 
 use crate::{Note, RunError, RunStats, SuiteNote, TestRun};
 
@@ -26,7 +27,7 @@ fn passed(count: usize) -> SuiteNote {
     }
 }
 
-/// Adds both suites to a run, of which the first one fits, and returns what the second one gives.
+/// Adds two suites to a run, and returns the result of the second. The first one must fit.
 fn added(first: SuiteNote, second: SuiteNote) -> Result<TestRun, RunError> {
     let mut run = TestRun::new(0);
     let fits = run.learn_note(&Note::Suite(first));

@@ -38,7 +38,7 @@ const IGNORED: &str = r#"{ "type": "suite", "event": "started", "test_count": 1 
 { "type": "suite", "event": "ok", "passed": 0, "failed": 0, "ignored": 1 }
 "#;
 
-/// A suite of two tests, one of which never started.
+/// A suite of two tests. One passed, and the other never started.
 const NOT_ALL: &str = r#"{ "type": "suite", "event": "started", "test_count": 2 }
 { "type": "test", "event": "started", "name": "adds" }
 { "type": "test", "name": "adds", "event": "ok" }

@@ -11,7 +11,7 @@ use std::process::{Command, Output};
 /// The most bytes that the program reads at once.
 const PIECE: usize = 65_536;
 
-/// A suite of two tests, of which one fails and one is not run.
+/// A suite of two tests. One fails, and the other is not run.
 const SMALL_RUN: &str = r#"{"type":"suite","event":"started","test_count":2}
 {"type":"test","event":"started","name":"a"}
 {"type":"test","event":"failed","name":"a","message":"why"}

@@ -80,8 +80,8 @@ fn a_run_of_three_megabytes() {
     assert_eq!(reported(&input), wanted);
 }
 
-/// Returns the report of a test that failed with this reason, of which the first bytes are shown, and with this number of
-/// other lines of output.
+/// Returns the report of a test that failed with this reason, which is shown up to [`LIMIT`], and with this number of other
+/// lines of output.
 fn report_of_one(reason: &str, hidden: usize) -> String {
     let mut text = String::from("FAIL suite 1 a\n");
     for line in reason[..reason.len().min(LIMIT)].lines() {

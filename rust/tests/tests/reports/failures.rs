@@ -7,7 +7,7 @@ use deodarsieve_cli::report::{Files, Format};
 use deodarsieve_tests::reports::{OPTIONS, new_report, read_lines, write_report};
 use std::io::{self, Write};
 
-/// A writer that takes texts until it has no room, and of which one call fails.
+/// A writer that can run out of room, and whose call number `fails` is an error.
 #[derive(Default)]
 struct Writer {
     written: Vec<u8>,

@@ -4,7 +4,7 @@ use crate::reported;
 use deodarsieve_cli::report::Format;
 use deodarsieve_tests::reports::OPTIONS;
 
-/// A suite of two tests, of which one fails and one is not run.
+/// A suite of two tests. One fails, and the other is not run.
 pub const RUN: &str = r#"{"type":"suite","event":"started","test_count":2}
 {"type":"test","event":"started","name":"a"}
 {"type":"test","event":"failed","name":"a","message":"why"}
