@@ -331,15 +331,15 @@ fn ends_part(note: &Note) -> bool {
 
 impl FileTexts {
     /// Returns the texts of the files and, if it is a document or JSON, that of standard output.
-    fn of(model: ReportModel, files: Files, format: Format, options: Options) -> FileTexts {
+    fn of(mut model: ReportModel, files: Files, format: Format, options: Options) -> FileTexts {
         let html = files.html || format == Format::Html;
         let markdown = files.markdown || format == Format::Markdown;
         let json = files.json || format == Format::Json;
         let junit = files.junit || format == Format::Junit;
         FileTexts {
-            html: html.then(|| page(&model)),
-            markdown: markdown.then(|| summary(&model)),
             json: json.then(|| Json::of(&model)),
+            html: html.then(|| page(&mut model, !(markdown || junit))),
+            markdown: markdown.then(|| summary(&mut model, !junit)),
             junit: junit.then(|| junit::junit(model, options.no_tests_pass)),
         }
     }

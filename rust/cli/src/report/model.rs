@@ -35,7 +35,7 @@ pub(crate) struct ReportModel {
     /// The problems other than failed tests. If no test ran, that is the first one.
     pub(crate) problems: Vec<ProblemModel>,
 
-    /// The slowest tests, the slowest first.
+    /// The slowest tests, the slowest first. Only a page has this list and the next two.
     #[serde(skip)]
     pub(crate) slowest: Vec<(u64, String)>,
 
@@ -107,10 +107,12 @@ pub(crate) struct FailedModel {
     /// The number of tests that became known as failed before this one.
     pub(crate) order: usize,
     pub(crate) result: FailedResult,
+
+    /// The place in the sources, and the output, if all tests are listed.
     pub(crate) place: Option<PlaceModel>,
+    pub(crate) output: Option<String>,
     pub(crate) short: String,
     pub(crate) why: String,
-    pub(crate) output: Option<String>,
 
     /// The whole output in a page and in a summary, if `why` does not show all of it.
     pub(crate) page_output: Option<WholeOutput>,
@@ -217,6 +219,11 @@ impl TestModel {
         &self.written_name[self.start..]
     }
 
+    /// Returns the name as above, and how the test ended.
+    pub(crate) fn name_and_kind(&mut self) -> (&str, &mut TestKind) {
+        (&self.written_name[self.start..], &mut self.kind)
+    }
+
     /// Returns a test.
     fn of(test: &TestNote, kind: TestKind) -> TestModel {
         TestModel {
@@ -291,7 +298,7 @@ impl ModelBuilder {
             open: BTreeMap::new(),
             suites: Vec::new(),
             problems: Vec::new(),
-            slowest: Slowest::new(SLOWEST),
+            slowest: Slowest::new(if wanted.page { SLOWEST } else { 0 }),
             skips: Vec::new(),
             flaky: Vec::new(),
             failed: 0,
@@ -313,7 +320,7 @@ impl ModelBuilder {
     /// Keeps a test that passed.
     fn on_passed(&mut self, test: &TestNote) {
         self.slowest.add(test.time, || title(test));
-        if test.attempts > 1 {
+        if self.wanted.page && test.attempts > 1 {
             self.flaky.push(FlakyModel {
                 title: title(test),
                 attempts: test.attempts,
@@ -332,7 +339,7 @@ impl ModelBuilder {
             TestOutcome::Skipped { reason } => reason.as_deref(),
             TestOutcome::Passed { .. } | TestOutcome::Failed(_) => None,
         };
-        if let Some(reason) = reason {
+        if let Some(reason) = reason.filter(|_| self.wanted.page) {
             self.skips.push((title(test), whole_text(reason)));
         }
         if self.wanted.all_tests {
@@ -354,14 +361,17 @@ impl ModelBuilder {
         let failed = FailedModel {
             order: self.failed,
             result: FailedResult::of(&failure.failure.kind),
-            place: failure.place.map(|place| PlaceModel {
-                file: place.file.to_string(),
-                line: place.line.to_string(),
-                column: place.column.map(str::to_string),
-            }),
+            place: failure
+                .place
+                .filter(|_| self.wanted.all_tests)
+                .map(|place| PlaceModel {
+                    file: place.file.to_string(),
+                    line: place.line.to_string(),
+                    column: place.column.map(str::to_string),
+                }),
+            output: stdout.filter(|_| self.wanted.all_tests).map(str::to_string),
             short: front(&failure.short, limit).to_string(),
             why: limited(why, limit),
-            output: stdout.filter(|_| self.wanted.all_tests).map(str::to_string),
             page_output: page.and_then(|output| self.page_room.take(output)),
             summary_output: summary.and_then(|output| self.summary_room.take(output)),
         };

@@ -25,7 +25,7 @@
 use crate::report::escape::{name, text};
 use crate::report::model::{
     CaseModel, FailedModel, FailedResult, FlakyModel, ProblemModel, ReportModel, Seconds,
-    SuiteModel, TestKind, TestModel,
+    SuiteModel, TestKind,
 };
 use crate::report::numbers::Numbers;
 use crate::report::output::{Document, Template};
@@ -36,6 +36,9 @@ use crate::template::{Value, push_item, push_section, push_text, render};
 /// The summary shows failed tests until their rows and details have this number of bytes. GitHub shows a summary of at
 /// most 1 MiB.
 const MOST_BYTES: usize = 900_000;
+
+/// How many values most failed tests have.
+const FAILED_VALUES: usize = 6;
 
 /// Values for a template.
 #[derive(Default)]
@@ -111,8 +114,15 @@ impl Values {
     }
 }
 
-/// Returns the page of a report.
-pub(crate) fn page(model: &ReportModel) -> Document {
+/// Returns the page of a report. If it is the last document, the texts of the model are dropped while values are made.
+pub(crate) fn page(model: &mut ReportModel, is_last: bool) -> Document {
+    let failures: Vec<_> = failures(model)
+        .into_iter()
+        .map(|failure| {
+            let output = failure.failed.page_output.take();
+            failure.values(output, is_last)
+        })
+        .collect();
     let longest = model.slowest.first().map_or(0, |slow| slow.0).max(1);
     let suites = model.suites.iter().map(suite_row);
     let slowest = model.slowest.iter().map(|(time, title)| {
@@ -120,10 +130,6 @@ pub(crate) fn page(model: &ReportModel) -> Document {
         Values::of("name", title)
             .number("share", share)
             .text("seconds", seconds_text(*time))
-    });
-    let failures = failures(model).into_iter().map(|failure| {
-        let output = &failure.failed.page_output;
-        failure.values(output)
     });
     run_values(model)
         .text("outcome", model.outcome)
@@ -133,7 +139,7 @@ pub(crate) fn page(model: &ReportModel) -> Document {
             "problem",
             model.problems.iter().map(problem_values),
         )
-        .section("failures", "failed", failures)
+        .section("failures", "failed", failures.into_iter())
         .section("suites", "suite", suites)
         .section("slowest", "slow", slowest)
         .section(
@@ -148,11 +154,13 @@ pub(crate) fn page(model: &ReportModel) -> Document {
         .rendered(Template::Page)
 }
 
-/// Returns the summary of a report in Markdown. It has only the first of many failed tests.
-pub(crate) fn summary(model: &ReportModel) -> Document {
+/// Returns the summary of a report in Markdown. It has only the first of many failed tests. If it is the last document,
+/// the texts of the model are dropped while values are made.
+pub(crate) fn summary(model: &mut ReportModel, is_last: bool) -> Document {
     let failures = failures(model);
-    let shown: Vec<_> = fitting(&failures).collect();
-    let more = failures.len() - shown.len();
+    let count = failures.len();
+    let shown: Vec<_> = fitting(failures, is_last).collect();
+    let more = count - shown.len();
     // The template itself has the word for a run in which no test ran: its hyphens would be references in a value.
     let outcome = (!model.is_empty).then(|| Values::of("outcome", model.outcome));
     run_values(model)
@@ -172,14 +180,15 @@ pub(crate) fn summary(model: &ReportModel) -> Document {
 }
 
 /// Returns the first failed tests, until their rows and details fill the summary.
-fn fitting(failures: &[Failure<'_>]) -> impl Iterator<Item = Values> {
+fn fitting(failures: Vec<Failure<'_>>, is_last: bool) -> impl Iterator<Item = Values> {
     let parts = Template::FailedTest.parts();
     let mut room = MOST_BYTES;
-    failures.iter().map_while(move |failure| {
+    failures.into_iter().map_while(move |failure| {
         if room == 0 {
             return None;
         }
-        let values = failure.values(&failure.failed.summary_output);
+        let output = failure.failed.summary_output.take();
+        let values = failure.values(output, is_last);
         let mut text = String::new();
         render(&mut text, &parts, &values.0);
         room = room.saturating_sub(text.len());
@@ -251,21 +260,19 @@ fn flaky_values(test: &FlakyModel) -> Values {
 
 /// A failed test of a report.
 struct Failure<'a> {
-    suite: &'a SuiteModel,
-    test: &'a TestModel,
-    failed: &'a FailedModel,
+    suite: Option<&'a str>,
+    test: &'a str,
+    attempts: usize,
+    time: Option<Seconds>,
+    failed: &'a mut FailedModel,
 }
 
 /// Returns the failed tests of a report, in the order in which they became known.
-fn failures(model: &ReportModel) -> Vec<Failure<'_>> {
+fn failures(model: &mut ReportModel) -> Vec<Failure<'_>> {
     let mut failures = Vec::new();
-    for suite in &model.suites {
-        failures.extend(
-            suite
-                .cases
-                .iter()
-                .filter_map(|case| Failure::of(suite, case)),
-        );
+    for SuiteModel { name, cases, .. } in &mut model.suites {
+        let suite = name.as_deref().map(String::as_str);
+        failures.extend(cases.iter_mut().filter_map(|case| Failure::of(suite, case)));
     }
     failures.sort_by_key(|failure| failure.failed.order);
     failures
@@ -273,42 +280,55 @@ fn failures(model: &ReportModel) -> Vec<Failure<'_>> {
 
 impl<'a> Failure<'a> {
     /// Returns the failed test of a case of a suite.
-    fn of(suite: &'a SuiteModel, case: &'a CaseModel) -> Option<Failure<'a>> {
+    fn of(suite: Option<&'a str>, case: &'a mut CaseModel) -> Option<Failure<'a>> {
         match case {
-            CaseModel::Test(test) => match &test.kind {
-                TestKind::Failed(failed) => Some(Failure {
-                    suite,
-                    test,
-                    failed,
-                }),
-                TestKind::Passed | TestKind::Skipped(_) => None,
-            },
+            CaseModel::Test(test) => {
+                let (attempts, time) = (test.attempts, test.time);
+                let (name, kind) = test.name_and_kind();
+                match kind {
+                    TestKind::Failed(failed) => Some(Failure {
+                        suite,
+                        test: name,
+                        attempts,
+                        time,
+                        failed,
+                    }),
+                    TestKind::Passed | TestKind::Skipped(_) => None,
+                }
+            }
             CaseModel::Problem(_) => None,
         }
     }
 
     /// Returns the values of the test, with its whole output if there is one.
-    fn values(&self, output: &Option<WholeOutput>) -> Values {
-        let (test, failed) = (self.test, self.failed);
-        let (test_name, short) = (name(test.name()), text(&failed.short));
-        let suite = self.suite.name.as_ref().map(|suite| {
+    fn values(self, output: Option<WholeOutput>, is_last: bool) -> Values {
+        let failed = self.failed;
+        let (test_name, short) = (name(self.test), text(&failed.short));
+        let why = text(&failed.why);
+        if is_last {
+            failed.short = String::new();
+            failed.why = String::new();
+        }
+        let suite = self.suite.map(|suite| {
             let suite = name(suite);
             let has_at = suite.contains('@');
             Values::of("name", suite).mark("name_code", has_at)
         });
-        let attempts = (test.attempts > 1).then(|| Values::of("count", test.attempts.to_string()));
-        let note = Values::default().some("attempts", attempts).time(test.time);
+        let attempts = (self.attempts > 1).then(|| Values::of("count", self.attempts.to_string()));
+        let note = Values::with_room(1)
+            .some("attempts", attempts)
+            .time(self.time);
         let output = output
-            .as_ref()
-            .map(|output| Values::of("lines", output.lines.to_string()).text("text", &output.text));
-        Values::of("status", failed.result.status())
+            .map(|output| Values::of("lines", output.lines.to_string()).text("text", output.text));
+        Values::with_room(FAILED_VALUES)
+            .text("status", failed.result.status())
             .some("suite", suite)
             .some("note", (!note.0.is_empty()).then_some(note))
             .mark("name_code", test_name.contains('@'))
             .mark("short_code", short.contains('@'))
             .text("name", test_name)
             .text("short", short)
-            .text("why", text(&failed.why))
+            .text("why", why)
             .some("output", output)
     }
 }
