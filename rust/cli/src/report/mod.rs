@@ -215,7 +215,7 @@ impl Report {
     /// Fails if `output` does, or if a number of the run does not fit.
     pub fn end_file(&mut self, output: &mut impl Write) -> Result<(), Fault> {
         let notes = self.run.end_file()?;
-        self.show_parts(&notes, output)
+        self.show_parts(notes, output)
     }
 
     /// Takes the end of the last file, and how the command ended if its output was read. Writes what this makes known, and
@@ -229,7 +229,7 @@ impl Report {
     ) -> Result<Ended, Fault> {
         let Finished { notes, end, status } =
             self.run.finish(command, self.options.no_tests_pass)?;
-        self.show_parts(&notes, output)?;
+        self.show_parts(notes, output)?;
         let mut texts = self.form.map(|form| form.on_end(&end)).unwrap_or_default();
         if matches!(
             self.format,
@@ -253,8 +253,9 @@ impl Report {
         })
     }
 
-    /// Writes what the end of a file makes known, part after part.
-    fn show_parts(&mut self, notes: &[Note], output: &mut impl Write) -> Result<(), Fault> {
+    /// Writes what the end of a file makes known, part after part. The notes of many crashed tests take much memory, so
+    /// they are dropped then.
+    fn show_parts(&mut self, notes: Vec<Note>, output: &mut impl Write) -> Result<(), Fault> {
         for part in notes.split_inclusive(ends_part) {
             self.show(part, output)?;
         }
@@ -274,8 +275,13 @@ impl Report {
                 form.on_entry(&entry, &mut self.text);
             }
             match self.format {
-                Format::Annotated { annotations: own } | Format::Github { annotations: own } => {
+                Format::Annotated { annotations: own } => {
                     annotations.extend(Annotation::of(&entry, own));
+                }
+                Format::Github { annotations: own } => {
+                    if let Some(annotation) = Annotation::of(&entry, own) {
+                        annotation.push(&mut self.text);
+                    }
                 }
                 Format::Names => push_failed_name(&entry, &mut self.text),
                 Format::Text | Format::Junit | Format::Html | Format::Markdown | Format::Json => {}
