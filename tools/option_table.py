@@ -548,9 +548,16 @@ def files():
                   {"a": "old"}, after={"a": None}, has_space=False)
     yield Row("an old file that cannot be removed", ["--junit", "/proc/version"], RED, 3, "",
               "test-report: /proc/version cannot be written\n")
-    for option in ("--junit", "--html", "--markdown", "--json"):
-        yield Row(f"{option} in no folder", [option, "none/a"], RED, 3, RED_TEXT,
-                  "test-report: none/a cannot be written\n")
+    yield Row("old files beside one that cannot be removed", ["--junit", "a", "--html", "/proc/version", "--json", "b"],
+              RED, 3, "", "test-report: /proc/version cannot be written\n", {"a": "old", "b": "old"},
+              after={"a": None, "b": None})
+    for option, text in [("--junit", XML), ("--html", PAGE), ("--markdown", MARKDOWN), ("--json", OBJECT)]:
+        yield Row(f"{option} in no folder", [option, "none/sub/a"], RED, 1, RED_TEXT, after={"none/sub/a": text})
+        for path in ("a/b", ".", "sub/", "a/../b", ""):
+            yield Row(f"{option} {path!r}", [option, path], RED, 3, "", f"test-report: {path} cannot be written\n",
+                      {"a": "old", "sub/b": ""}, after={"a": "old"})
+        yield Row(f"{option} that cannot be written, and no input", [option, "a/b", "none.jsonl"], "", 3, "",
+                  "test-report: a/b cannot be written\n", {"a": "old"})
 
 
 def links():
@@ -613,6 +620,8 @@ def conflicts():
             for old in ({}, {"a": "old", "sub/b": "old"}):
                 yield refused([f"--{second}={two}", f"--{first}", one], message, files={"sub/c": "", **old},
                               links={"link": "a", "folder": "sub"}, after={"a": None, "sub/b": None, **old})
+    yield refused(["--junit", "none/a", "--html", "./none/sub/../a"],
+                  "--junit none/a and --html ./none/sub/../a are one file", after={"none": None})
     yield refused(["--junit", "a", "--html", "b", "--markdown", "a"], "--junit a and --markdown a are one file",
                   after={"a": None, "b": None})
     yield refused(["--junit", "b", "--html", "a", "--markdown", "a"], "--html a and --markdown a are one file",
@@ -660,6 +669,8 @@ def commands():
     # A command that goes on without its streams is waited for.
     yield command("cat green.jsonl; exec >&- 2>&-; sleep 1; exit 4", 1, with_line(NO_REASON.replace("7", "4"), GREEN_TEXT))
     yield command("cat red.jsonl", 1, RED_TEXT, options=OPTIONS, after=WRITTEN)
+    yield command("touch ran", 3, "", "test-report: red.jsonl/a cannot be written\n", ["--markdown", "red.jsonl/a"],
+                  after={"ran": None})
 
 
 def surroundings():

@@ -4,8 +4,8 @@ use deodarsieve::CancelReason;
 use signal_hook::consts::{SIGINT, SIGTERM};
 use signal_hook::flag::{register, register_conditional_default};
 use std::io;
-use std::sync::Arc;
 use std::sync::atomic::{AtomicBool, Ordering};
+use std::sync::{Arc, Mutex, MutexGuard, PoisonError};
 use std::thread;
 use std::time::Duration;
 
@@ -26,6 +26,56 @@ pub struct Interrupt {
 
     /// True if SIGTERM was sent on.
     is_sent_on: AtomicBool,
+    next: Arc<Next>,
+}
+
+/// What the next signal does.
+#[derive(Debug, Default)]
+struct Next {
+    /// True if it ends the program.
+    ends: Arc<AtomicBool>,
+
+    /// Who has this lock may change that.
+    lock: Mutex<()>,
+}
+
+impl Next {
+    /// Lets the next signal end the program. If that is held off, waits until it is not.
+    fn end_program(&self) {
+        let _lock = self.lock();
+        self.ends.store(true, Ordering::SeqCst);
+    }
+
+    /// Lets no signal end the program until the result is dropped.
+    fn hold(&self) -> Held<'_> {
+        let lock = self.lock();
+        Held {
+            next: self,
+            ended: self.ends.swap(false, Ordering::SeqCst),
+            _lock: lock,
+        }
+    }
+
+    /// Returns the lock. It guards no data, so a thread that panicked with it has left nothing half done.
+    fn lock(&self) -> MutexGuard<'_, ()> {
+        self.lock.lock().unwrap_or_else(PoisonError::into_inner)
+    }
+}
+
+/// While this is alive, no signal ends the program.
+#[derive(Debug)]
+pub struct Held<'a> {
+    next: &'a Next,
+
+    /// True if the next signal ended the program before.
+    ended: bool,
+    _lock: MutexGuard<'a, ()>,
+}
+
+impl Drop for Held<'_> {
+    fn drop(&mut self) {
+        self.next.ends.store(self.ended, Ordering::SeqCst);
+    }
 }
 
 impl Interrupt {
@@ -39,26 +89,32 @@ impl Interrupt {
             is_interrupted: Arc::default(),
             is_terminated: Arc::default(),
             is_sent_on: AtomicBool::default(),
+            next: Arc::default(),
         };
-        let is_over = Arc::default();
         // The actions for a signal run in the order in which they are registered.
         for (signal, is_this) in [
             (SIGINT, &interrupt.is_interrupted),
             (SIGTERM, &interrupt.is_terminated),
         ] {
-            register_conditional_default(signal, Arc::clone(&is_over))?;
+            register_conditional_default(signal, Arc::clone(&interrupt.next.ends))?;
             register(signal, Arc::clone(is_this))?;
             register(signal, Arc::clone(&interrupt.has_come))?;
         }
         let wait_for_first = waiter(Arc::clone(&interrupt.has_come))?;
+        let next = Arc::clone(&interrupt.next);
         // The main thread may be blocked by a device when the signal is over.
         let note_end = move || {
             wait_for_first();
             thread::sleep(DURATION);
-            is_over.store(true, Ordering::SeqCst);
+            next.end_program();
         };
         thread::Builder::new().spawn(note_end)?;
         Ok(interrupt)
+    }
+
+    /// Lets no signal end the program until the result is dropped. Hold it while something must not be left half done.
+    pub fn hold(&self) -> Held<'_> {
+        self.next.hold()
     }
 
     /// Returns true if the first signal has come.
@@ -115,4 +171,41 @@ fn waiter(has_come: Arc<AtomicBool>) -> io::Result<impl FnOnce() + Send + 'stati
             thread::sleep(DURATION);
         }
     })
+}
+
+#[cfg(test)]
+mod tests {
+    use super::*;
+
+    /// Returns true if the next signal ends the program.
+    fn ends(next: &Next) -> bool {
+        next.ends.load(Ordering::SeqCst)
+    }
+
+    #[test]
+    fn no_signal_ends_the_program_while_it_is_held_off() {
+        let next = Next::default();
+        drop(next.hold());
+        assert!(!ends(&next), "the first signal ends nothing");
+        next.end_program();
+        assert!(ends(&next));
+        let held = next.hold();
+        assert!(!ends(&next));
+        drop(held);
+        assert!(ends(&next));
+    }
+
+    #[test]
+    fn a_first_signal_that_is_over_while_it_is_held_off_counts_afterwards() {
+        let next = Next::default();
+        thread::scope(|scope| {
+            let held = next.hold();
+            let over = scope.spawn(|| next.end_program());
+            thread::sleep(Duration::from_millis(50));
+            assert!(!ends(&next));
+            drop(held);
+            over.join().expect("the thread ends");
+            assert!(ends(&next));
+        });
+    }
 }

@@ -1,81 +1,126 @@
-//! Writes files so that a reader never sees a partly written file.
+//! Replaces files so that a reader never sees a partly written file.
 
-use crate::same_file::{FileId, named_by_links};
-use std::fs::{self, File, OpenOptions};
+use crate::same_file::present;
+use std::ffi::OsStr;
+use std::fs::{self, File, Permissions};
 use std::io::{self, ErrorKind, Write};
 use std::path::{Path, PathBuf};
-use std::process;
+use tempfile::{Builder, TempDir};
 
-/// Returns the path of the new file that is written and then renamed. It is in the same folder.
-fn name_before(path: &Path) -> PathBuf {
-    let mut name = path.file_name().unwrap_or_default().to_os_string();
-    name.push(format!(".{}.new", process::id()));
-    path.with_file_name(name)
+/// How many characters of the name of a temporary folder are random.
+const RANDOM_CHARACTERS: usize = 12;
+
+/// A file that a text will replace, or a name that no file has yet.
+#[derive(Debug)]
+pub struct ReplacedFile {
+    /// Its path, which is no symbolic link.
+    path: PathBuf,
+
+    /// The permissions of the old file, if there is one. The new file gets them.
+    permissions: Option<Permissions>,
 }
 
-/// Writes a text to a new file, and renames the file to `path`.
-fn write_and_rename(path: &Path, text: &str) -> io::Result<()> {
-    let before = name_before(path);
-    let mut file = File::create_new(&before)?;
-    let written = file
-        .write_all(text.as_bytes())
-        .and_then(|()| fs::rename(&before, path));
-    if written.is_err() {
-        // The error of the write is the one to report.
-        let _ = fs::remove_file(&before);
+impl ReplacedFile {
+    /// Returns the file at `path`, which must be no symbolic link. `permissions` are those of the old file, if there is
+    /// one.
+    pub fn new(path: PathBuf, permissions: Option<Permissions>) -> ReplacedFile {
+        let permissions = permissions.map(without_special_bits);
+        ReplacedFile { path, permissions }
     }
-    written
-}
 
-/// Returns the file that a text for `path` replaces: if `path` is a symbolic link, the file that it names. Returns
-/// `None` if `path` is a device, a pipe or standard error, because a text is added to these.
-fn replaced_by(path: &Path) -> io::Result<Option<PathBuf>> {
-    match fs::metadata(path) {
-        Ok(found) if !found.is_file() => Ok(None),
-        Ok(_) => {
-            let is_standard_error =
-                FileId::of_standard_error().is_some_and(|id| FileId::of_path(path) == Some(id));
-            if is_standard_error {
-                return Ok(None);
-            }
-            fs::canonicalize(path).map(Some)
+    /// Makes sure that the file can be replaced: creates its folder if there is none, and creates a temporary file
+    /// there, which is removed at once.
+    ///
+    /// Fails if the file cannot be replaced.
+    pub fn check(&self) -> io::Result<()> {
+        fs::create_dir_all(self.folder())?;
+        self.temporary().map(drop)
+    }
+
+    /// Removes the old file, if there is one.
+    pub fn remove_old(&self) -> io::Result<()> {
+        present(fs::remove_file(&self.path)).map(drop)
+    }
+
+    /// Replaces the file. A reader finds the old file or the whole new one, because the text is written to a temporary
+    /// file that is then renamed. If this fails, the temporary file is removed.
+    pub fn replace(&self, text: &str) -> io::Result<()> {
+        let mut temporary = self.temporary()?;
+        temporary.file.write_all(text.as_bytes())?;
+        temporary.file.sync_all()?;
+        fs::rename(&temporary.path, &self.path)?;
+        sync_folder(self.folder());
+        Ok(())
+    }
+
+    /// Creates an empty temporary file with the permissions of the old file.
+    fn temporary(&self) -> io::Result<TemporaryFile> {
+        let name = self.path.file_name().ok_or(ErrorKind::InvalidInput)?;
+        let temporary = TemporaryFile::create(self.folder(), name)?;
+        if let Some(permissions) = &self.permissions {
+            temporary.set_permissions(permissions)?;
         }
-        Err(_) => named_by_links(path).map(Some),
+        Ok(temporary)
+    }
+
+    /// Returns the folder of the file.
+    fn folder(&self) -> &Path {
+        match self.path.parent() {
+            Some(folder) if !folder.as_os_str().is_empty() => folder,
+            _ => Path::new("."),
+        }
     }
 }
 
-/// Removes the file that [`replace`] would replace, if there is one.
-pub fn remove_old(path: &str) -> io::Result<()> {
-    let Some(file) = replaced_by(Path::new(path))? else {
-        return Ok(());
-    };
-    match fs::remove_file(file) {
-        Err(error) if error.kind() != ErrorKind::NotFound => Err(error),
-        _ => Ok(()),
+/// A new file in a new folder. Both are removed when this is dropped. The file is closed first, because some systems do
+/// not remove a file that is open.
+struct TemporaryFile {
+    file: File,
+    path: PathBuf,
+    _folder: TempDir,
+}
+
+impl TemporaryFile {
+    /// Creates a folder with a random name in `folder`, and a file in it. If the name is taken, another one is tried,
+    /// and nothing is followed that somebody else put there. In a folder of its own the file gets the permissions that
+    /// the system gives to new files, which nothing else says.
+    fn create(folder: &Path, name: &OsStr) -> io::Result<TemporaryFile> {
+        let folder = Builder::new()
+            .prefix(".test-report.")
+            .suffix(".new")
+            .rand_bytes(RANDOM_CHARACTERS)
+            .tempdir_in(folder)?;
+        let path = folder.path().join(name);
+        Ok(TemporaryFile {
+            file: File::create_new(&path)?,
+            path,
+            _folder: folder,
+        })
+    }
+
+    /// Gives permissions to the file. A file system that has the same ones for all files may refuse to set them.
+    fn set_permissions(&self, permissions: &Permissions) -> io::Result<()> {
+        if self.file.metadata()?.permissions() == *permissions {
+            return Ok(());
+        }
+        self.file.set_permissions(permissions.clone())
     }
 }
 
-/// Replaces the file at `path`, or creates it. A reader finds the old file or the whole new one, because the
-/// text is written to a new file that is then renamed. If `path` is a symbolic link, the file that it names is
-/// replaced. To a device, a pipe and standard error the text is added.
-pub fn replace(path: &str, text: &str) -> io::Result<()> {
-    match replaced_by(Path::new(path))? {
-        Some(file) => write_and_rename(&file, text),
-        None => OpenOptions::new()
-            .append(true)
-            .open(path)?
-            .write_all(text.as_bytes()),
-    }
+/// Writes the names in a folder to its device. Some systems cannot do that, and the new file is complete all the same.
+fn sync_folder(folder: &Path) {
+    let _ = File::open(folder).and_then(|folder| folder.sync_all());
 }
 
-/// Appends a text to the file at `path` in one piece, after an empty line if the file has a text.
-pub fn append(path: &str, text: &str) -> io::Result<()> {
-    let mut file = OpenOptions::new().append(true).create(true).open(path)?;
-    let is_empty = file.metadata()?.len() == 0;
-    let piece = if is_empty {
-        text.to_string()
-    } else {
-        format!("\n{text}")
-    };
-    file.write_all(piece.as_bytes())
+/// Returns permissions without the bits that say as which user a program runs: a report is no program.
+#[cfg(unix)]
+fn without_special_bits(permissions: Permissions) -> Permissions {
+    use std::os::unix::fs::PermissionsExt;
+    Permissions::from_mode(permissions.mode() & 0o777)
+}
+
+/// Returns permissions as they are.
+#[cfg(not(unix))]
+fn without_special_bits(permissions: Permissions) -> Permissions {
+    permissions
 }

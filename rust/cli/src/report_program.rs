@@ -3,13 +3,12 @@
 use crate::command::stand_in::stand_in;
 use crate::commands::{cargo_test_report, test_report};
 use crate::interrupt::Interrupt;
-use crate::output_files::{STANDARD_INPUT, refuse_conflicts, remove_old_files};
+use crate::output_files::{OutputFiles, STANDARD_INPUT, refuse_conflicts};
 use crate::program::{BAD_ARGUMENT, DEVICE_FAILED, Failure, KeepError, print_clap};
 use crate::progress_line::ProgressLine;
-use crate::replaced_file::{append, replace};
 use crate::report::fault::Fault;
 use crate::report::options::{Options, OutputDisplay};
-use crate::report::{Document, FileTexts, Files, Format, Json, Report};
+use crate::report::{Files, Format, Report};
 use crate::run_input::{Input, PassOn, RunReader, Streams};
 use crate::standard_streams::{StandardOutput, check_output};
 use clap::{ArgMatches, Command};
@@ -188,30 +187,6 @@ fn files_of(matches: &ArgMatches) -> Files {
     }
 }
 
-/// Writes the files that the arguments ask for.
-fn write_files(matches: &ArgMatches, texts: &FileTexts) -> Result<(), Failure> {
-    let files = [
-        (
-            "junit",
-            texts.junit.as_ref().map(Document::as_str),
-            replace as fn(&str, &str) -> io::Result<()>,
-        ),
-        ("html", texts.html.as_ref().map(Document::as_str), replace),
-        (
-            "markdown",
-            texts.markdown.as_ref().map(Document::as_str),
-            append,
-        ),
-        ("json", texts.json.as_ref().map(Json::as_str), replace),
-    ];
-    for (name, text, write) in files {
-        if let (Some(path), Some(text)) = (matches.get_one::<String>(name), text) {
-            write(path, text).map_err(|error| Failure::unwritten(path, error))?;
-        }
-    }
-    Ok(())
-}
-
 /// Makes the first Ctrl-C or SIGTERM not end the program.
 fn catch_first_interrupt() -> Result<Interrupt, Failure> {
     Interrupt::catch_first().map_err(|error| {
@@ -226,12 +201,12 @@ fn catch_first_interrupt() -> Result<Interrupt, Failure> {
 fn write_report(
     matches: &ArgMatches,
     input: &Input,
-    options: Options,
-    slow: u64,
+    (options, slow): (Options, u64),
+    interrupt: &Interrupt,
+    output_files: &OutputFiles,
 ) -> Result<ExitCode, Failure> {
     let (format, files) = (format_of(matches, options), files_of(matches));
     let report = Report::new(options, format, files, slow, input.file_names());
-    let interrupt = catch_first_interrupt()?;
     let shows_progress = shows_progress(matches);
     let has_reader = shows_progress || io::stderr().is_terminal();
     let line = RefCell::new(ProgressLine::new(io::stderr()));
@@ -250,7 +225,7 @@ fn write_report(
     let Streams { output, others, .. } = streams;
     match (ended, output.into_writer().into_error()) {
         (Ok(ended), _) => {
-            write_files(matches, &ended.files)?;
+            output_files.write(&ended.files, interrupt)?;
             let status = if others.has_failed() {
                 DEVICE_FAILED
             } else {
@@ -264,14 +239,6 @@ fn write_report(
         (Err(failure), Some(error)) => Err(failure.caused_by(Some(error))),
         (Err(failure), None) => Err(failure),
     }
-}
-
-/// Makes sure, before anything is read, that the report can be written to standard output, that it does not mix with
-/// the files, and that no old file is taken for a new one.
-fn prepare(matches: &ArgMatches, input: &Input) -> Result<(), Failure> {
-    refuse_conflicts(matches, input.files())?;
-    remove_old_files(matches)?;
-    check_output().map_err(|error| Failure::from(Fault::Write).caused_by(Some(error)))
 }
 
 /// Returns the form of standard output that the arguments ask for.
@@ -289,11 +256,15 @@ fn format_of(matches: &ArgMatches, options: Options) -> Format {
     }
 }
 
-/// Writes the report that the arguments ask for, and returns the exit status.
+/// Writes the report that the arguments ask for, and returns the exit status. Before anything is read, it makes sure that
+/// the report and the files can be written, that they do not mix, and that no old file is taken for a new one.
 fn report_of(matches: &ArgMatches, input: &Input) -> Result<ExitCode, Failure> {
-    let (options, slow) = (options_of(matches)?, slow_of(matches)?);
-    prepare(matches, input)?;
-    write_report(matches, input, options, slow)
+    let shown = (options_of(matches)?, slow_of(matches)?);
+    refuse_conflicts(matches, input.files())?;
+    let interrupt = catch_first_interrupt()?;
+    let files = OutputFiles::open(matches, &interrupt)?;
+    check_output().map_err(|error| Failure::from(Fault::Write).caused_by(Some(error)))?;
+    write_report(matches, input, shown, &interrupt, &files)
 }
 
 /// Returns what `test-report` reads: the words after `--` are a command, and otherwise there are files.

@@ -116,7 +116,7 @@ pub struct RunReader<'a, 'line, W: Write> {
     begun: Vec<u8>,
     streams: &'a mut Streams<'line, W>,
     pass_on: PassOn,
-    interrupt: Interrupt,
+    interrupt: &'a Interrupt,
 
     /// True if the line of progress is wanted.
     shows_progress: bool,
@@ -136,7 +136,7 @@ impl<'a, 'line, W: Write> RunReader<'a, 'line, W> {
         report: Report,
         streams: &'a mut Streams<'line, W>,
         pass_on: PassOn,
-        interrupt: Interrupt,
+        interrupt: &'a Interrupt,
         shows_progress: bool,
         has_reader: bool,
     ) -> RunReader<'a, 'line, W> {

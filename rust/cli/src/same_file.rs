@@ -2,8 +2,8 @@
 
 use std::ffi::OsString;
 use std::fs;
-use std::io::{self, IsTerminal};
-use std::path::{Path, PathBuf};
+use std::io::{self, ErrorKind, IsTerminal};
+use std::path::{Component, Path, PathBuf};
 
 /// The device to which a program writes what nobody wants to read.
 const NULL_DEVICE: &str = "/dev/null";
@@ -24,24 +24,40 @@ type Node = PathBuf;
 pub struct FileId {
     node: Node,
 
-    /// The name of a file that does not exist. `node` is then its folder.
-    missing: Option<OsString>,
+    /// If the file does not exist, its name, after those of the folders that do not exist either. `node` is then the
+    /// folder that they are in.
+    missing: Vec<OsString>,
 }
 
 impl FileId {
-    /// Returns the file at `path`. Returns `None` for the null device, and if there is no folder with such a file.
+    /// Returns the file at `path`. Returns `None` for the null device, and if the path is of no file.
     pub fn of_path(path: &Path) -> Option<FileId> {
-        if let Some(node) = node_of(path) {
-            return FileId::of_node(node);
+        match node_of(path) {
+            Some(node) => FileId::of_node(node),
+            None => FileId::of_missing(&named_by_links(path).ok()?),
         }
-        let path = named_by_links(path).ok()?;
-        let folder = match path.parent()? {
-            folder if folder.as_os_str().is_empty() => Path::new("."),
-            folder => folder,
-        };
+    }
+
+    /// Returns the place of a file that does not exist.
+    fn of_missing(path: &Path) -> Option<FileId> {
+        let exists = |path: &&Path| node_of(&or_here(path)).is_some();
+        let front = path.ancestors().skip(1).find(exists)?;
+        let (mut folder, mut missing) = (or_here(front), Vec::new());
+        for part in path.strip_prefix(front).ok()?.components() {
+            match part {
+                Component::Normal(name) => missing.push(name.to_os_string()),
+                // A folder that is missing is no link, so its parent is the one before it.
+                Component::ParentDir => {
+                    if missing.pop().is_none() {
+                        folder.push("..");
+                    }
+                }
+                Component::CurDir | Component::RootDir | Component::Prefix(_) => {}
+            }
+        }
         Some(FileId {
-            node: node_of(folder)?,
-            missing: Some(path.file_name()?.to_os_string()),
+            node: node_of(&folder)?,
+            missing,
         })
     }
 
@@ -69,8 +85,17 @@ impl FileId {
         let is_null = node_of(Path::new(NULL_DEVICE)).as_ref() == Some(&node);
         (!is_null).then_some(FileId {
             node,
-            missing: None,
+            missing: Vec::new(),
         })
+    }
+}
+
+/// Returns a path, or that of the current folder if it is empty.
+fn or_here(path: &Path) -> PathBuf {
+    if path.as_os_str().is_empty() {
+        PathBuf::from(".")
+    } else {
+        path.to_path_buf()
     }
 }
 
@@ -103,20 +128,76 @@ fn node_of_stream<T>(_stream: &T) -> Option<Node> {
     None
 }
 
-/// Returns the path that `path` stands for if it is a symbolic link to a file that does not exist. Returns any
+/// Returns what the system found, or `None` if there is no such file. Any other failure stays one: a link that the system
+/// refuses to follow is not a link to no file.
+pub fn present<T>(found: io::Result<T>) -> io::Result<Option<T>> {
+    match found {
+        Ok(found) => Ok(Some(found)),
+        Err(error) if error.kind() == ErrorKind::NotFound => Ok(None),
+        Err(error) => Err(error),
+    }
+}
+
+/// Returns true if `path` is a symbolic link.
+///
+/// Fails if the system does not say it.
+pub fn is_link(path: &Path) -> io::Result<bool> {
+    let found = present(fs::symlink_metadata(path))?;
+    Ok(found.is_some_and(|found| found.is_symlink()))
+}
+
+/// Returns the path that `path` stands for if it is a symbolic link, perhaps to a file that does not exist. Returns any
 /// other path as it is.
 ///
-/// Fails if links lead to each other.
+/// Fails if links lead to each other, or if the system does not say whether a path is a link.
 pub fn named_by_links(path: &Path) -> io::Result<PathBuf> {
     let mut path = path.to_path_buf();
     for _ in 0..LINKS {
-        match fs::read_link(&path) {
-            Ok(named) => {
-                path.pop();
-                path.push(named);
-            }
-            Err(_) => return Ok(path),
+        if !is_link(&path)? {
+            return Ok(path);
         }
+        let named = fs::read_link(&path)?;
+        path.pop();
+        path.push(named);
     }
     Err(io::Error::other("too many symbolic links"))
+}
+
+#[cfg(test)]
+mod tests {
+    use super::*;
+
+    #[test]
+    fn only_a_file_that_is_not_there_is_absent() {
+        let failed = |kind: ErrorKind| present::<()>(Err(kind.into())).map_err(|it| it.kind());
+        assert_eq!(failed(ErrorKind::NotFound), Ok(None));
+        let refused = Err(ErrorKind::PermissionDenied);
+        assert_eq!(failed(ErrorKind::PermissionDenied), refused);
+        assert!(matches!(present(Ok(1)), Ok(Some(1))));
+    }
+
+    #[test]
+    fn a_place_in_folders_that_do_not_exist_is_one_by_each_of_its_names() {
+        let id = |path: &str| FileId::of_path(Path::new(path)).expect("it is a place");
+        let place = id("no/such/a");
+        for same in [
+            "./no/such/a",
+            "no/./such//a",
+            "no/x/../such/a",
+            "src/../no/such/a",
+            "no/../none/../no/such/a",
+        ] {
+            assert_eq!(id(same), place, "{same}");
+        }
+        for other in [
+            "no/such/b",
+            "no/a",
+            "such/a",
+            "src/no/such/a",
+            "no/../../no/such/a",
+        ] {
+            assert_ne!(id(other), place, "{other}");
+        }
+        assert_eq!(id("none/../../x"), id("../x"));
+    }
 }

@@ -269,21 +269,6 @@ fn files_are_written_as_well() {
     );
 }
 
-#[test]
-fn a_file_that_cannot_be_written() {
-    let folder = Folder::new("refused");
-    for option in ["--junit", "--html", "--markdown", "--json"] {
-        let path = folder.file("no/such/file");
-        let arguments = ["--others", "never", option, &path];
-        let output = run("test-report", &arguments, RUN.as_bytes());
-        assert_eq!(output.status.code(), Some(3), "{option}");
-        let message = String::from_utf8_lossy(&output.stderr);
-        let start = format!("test-report: {path} cannot be written: ");
-        assert!(message.starts_with(&start), "{message}");
-        assert_eq!(output.stdout, report(&[], RUN, 1).as_bytes(), "{option}");
-    }
-}
-
 #[cfg(unix)]
 #[test]
 fn a_link_and_a_device_stay() {
