@@ -174,6 +174,122 @@ fn whole_outputs_of_a_page_have_a_limit_together() {
     assert_eq!(page.matches("<span>a</span>").count(), 18);
 }
 
+/// The most bytes of a summary of which GitHub shows anything.
+const GITHUB: usize = 1_048_576;
+
+/// Returns the number before the words `more WHAT` in a summary, or 0 if it does not have them.
+fn more(summary: &str, what: &str) -> usize {
+    let words = format!(" more {what}: a summary on GitHub holds 1 MiB");
+    let text = summary.replace("&#40;", "(").replace("&#58;", ":");
+    text.split_once(&words).map_or(0, |(before, _)| {
+        let number = before.rsplit('(').next().expect("there is a bracket");
+        number.parse().expect("it is a number")
+    })
+}
+
+/// Returns a line that says in a way that cannot be read that a test failed, and that is shown in 200 bytes.
+fn damaged() -> String {
+    format!(
+        "{{\"type\":\"test\",\"event\":\"failed\",{}\n",
+        "<>".repeat(100)
+    )
+}
+
+#[test]
+fn many_problems_leave_room_in_a_summary_for_failed_tests() {
+    let tests = run_with_output(1_000, &"said\n".repeat(400));
+    let lines = [damaged().repeat(10_000), tests].concat();
+    let summary = report(&["--format", "markdown"], &lines, 1);
+    assert!(summary.len() < GITHUB, "{}", summary.len());
+    let problems = summary.matches("\n- a damaged line says ").count();
+    let failed = summary
+        .matches("\n<details><summary>FAIL suite 1 a<")
+        .count();
+    assert_eq!(summary.matches("\n| FAIL | suite 1 a |").count(), failed);
+    assert!(problems > 100 && failed > 100, "{problems} {failed}");
+    assert_eq!(problems + more(&summary, "problems"), 10_000);
+    assert_eq!(failed + more(&summary, "failed tests"), 1_000);
+}
+
+#[test]
+fn few_problems_and_failed_tests_are_all_in_a_summary() {
+    let tests = run_with_output(100, "said\n");
+    let lines = [damaged().repeat(100), tests].concat();
+    let summary = report(&["--format", "markdown"], &lines, 1);
+    assert_eq!(summary.matches("\n- a damaged line says ").count(), 100);
+    assert_eq!(summary.matches("\n| FAIL | suite 1 a |").count(), 100);
+    assert!(!summary.contains(" more "), "{summary}");
+}
+
+#[test]
+fn a_reason_in_a_summary_is_cut_and_the_end_of_its_output_follows() {
+    let lines = run_with_output(
+        2,
+        &format!("first\n{}last\n", "<234567890\n".repeat(40_000)),
+    );
+    for options in [["--output", "whole"], ["--limit", "none"]] {
+        let summary = report(
+            &[&["--format", "markdown"][..], &options].concat(),
+            &lines,
+            1,
+        );
+        assert!(summary.len() < GITHUB, "{}", summary.len());
+        let headings =
+            summary.matches("<details><summary>FAIL suite 1 a</summary>\n\n<pre>\nfirst\n");
+        assert_eq!(headings.count(), 2, "{options:?}");
+        // The output has 440,010 bytes without its last line feed.
+        assert_eq!(summary.matches("\n(423626 more bytes)</pre>").count(), 2);
+        assert_eq!(
+            summary
+                .matches("<summary>output, 40002 lines</summary>")
+                .count(),
+            2
+        );
+        assert_eq!(summary.matches("\nlast</pre>").count(), 2);
+        let page = report(&[&["--format", "html"][..], &options].concat(), &lines, 1);
+        assert!(!page.contains("more bytes"), "{options:?}");
+    }
+    let at_most = run_with_output(1, &"1234567\n".repeat(2_048));
+    let summary = report(&["--format", "markdown", "--output", "whole"], &at_most, 1);
+    assert!(!summary.contains("more bytes") && !summary.contains("<summary>output"));
+}
+
+/// Returns a text of control characters, as JSON has it.
+fn hostile(size: usize) -> String {
+    "\\u0001".repeat(size)
+}
+
+#[test]
+fn the_first_problem_and_the_first_failed_test_are_in_each_summary() {
+    let controls = "\u{1}".repeat(100_000);
+    let cargo = format!("{controls}\nerror: test failed, to rerun pass `{controls}`\n");
+    let (name, said) = (hostile(2_000), hostile(200_000));
+    let tests = format!(
+        r#"{{ "type": "suite", "event": "started", "test_count": 1, "nextest": {{ "crate": "{name}", "test_binary": "b" }} }}
+{{ "type": "test", "event": "started", "name": "{name}" }}
+{{ "type": "test", "event": "failed", "name": "{name}", "message": "{said}", "stdout": "{said}" }}
+"#
+    );
+    for options in [&["--output", "whole"][..], &["--limit", "none"], &[]] {
+        let arguments = [&["--format", "markdown"], options].concat();
+        let lines = [
+            &cargo,
+            "     Running x\n",
+            &tests,
+            &damaged().repeat(10_000),
+        ]
+        .concat();
+        let summary = report(&arguments, &lines, 1);
+        assert!(summary.len() < GITHUB, "{}", summary.len());
+        assert_eq!(
+            summary.matches("\n- ").count(),
+            10_003 - more(&summary, "problems")
+        );
+        assert_eq!(summary.matches("\n| FAIL |").count(), 1, "{options:?}");
+        assert_eq!(more(&summary, "failed tests"), 0, "{options:?}");
+    }
+}
+
 #[test]
 fn an_output_that_the_reason_shows_is_shown_once() {
     for form in ["html", "markdown"] {

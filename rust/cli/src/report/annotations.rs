@@ -87,14 +87,20 @@ pub(crate) fn push_failed_name(entry: &Entry<'_>, text: &mut Text) {
 /// Returns at most the first `limit` bytes of why a test failed, the number of bytes that are left out, and the number
 /// of lines of the output that are not shown.
 pub(crate) fn limited(why: &Why, limit: usize) -> String {
-    let first = front(&why.text, limit);
-    let mut limited = first.to_string();
-    let more = why.text.len() - first.len();
-    if more > 0 {
-        limited.push_str(&format!("\n({more} more bytes)"));
-    }
+    let mut limited = limited_text(&why.text, limit);
     if why.hidden > 0 {
         limited.push_str(&format!("\n({} more lines of output)", why.hidden));
+    }
+    limited
+}
+
+/// Returns at most the first `limit` bytes of a text, and the number of bytes that are left out.
+pub(crate) fn limited_text(text: &str, limit: usize) -> String {
+    let first = front(text, limit);
+    let mut limited = first.to_string();
+    let more = text.len() - first.len();
+    if more > 0 {
+        limited.push_str(&format!("\n({more} more bytes)"));
     }
     limited
 }

@@ -3,9 +3,13 @@
 
 use crate::report::lines::without_returns;
 use crate::template::shown::{is_escaped, push_escape};
+use std::borrow::Cow;
 
 /// The most bytes of the name of a suite, a test or a file that are shown.
 const NAME_LIMIT: usize = 1_024;
+
+/// What follows a text that is cut.
+const CUT: &str = "..";
 
 /// Returns the name of a suite, a test or a file as it is shown: at most its first 1,024 bytes, cut at a character, and
 /// `..` if it is longer.
@@ -20,7 +24,17 @@ pub(crate) fn push_name(text: &mut String, name: &str) {
     let shown = front(name, NAME_LIMIT);
     push_escaped(text, shown, true);
     if shown.len() < name.len() {
-        text.push_str("..");
+        text.push_str(CUT);
+    }
+}
+
+/// Returns at most the first `limit` bytes of a text, cut at a character, and `..` if it is longer.
+pub(crate) fn shortened(text: &str, limit: usize) -> Cow<'_, str> {
+    let shown = front(text, limit);
+    if shown.len() < text.len() {
+        Cow::from(format!("{shown}{CUT}"))
+    } else {
+        Cow::from(text)
     }
 }
 

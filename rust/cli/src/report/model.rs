@@ -9,7 +9,9 @@ use crate::report::numbers::Numbers;
 use crate::report::options::Options;
 use crate::report::problem::{NO_TESTS, Problem};
 use crate::report::slowest::Slowest;
-use crate::report::whole_output::{OutputRoom, PAGE_ROOM, SUMMARY_ROOM, WholeOutput};
+use crate::report::whole_output::{
+    MOST_BYTES_OF_TEXT, OutputRoom, PAGE_ROOM, SUMMARY_ROOM, WholeOutput,
+};
 use crate::report::words::{outcome_text, seconds_text, shown_name, title};
 use deodarsieve::RunOutcome;
 use deodarsieve_run::{FailureKind, RunEnd, SuiteNote, TestNote, TestOutcome};
@@ -114,7 +116,10 @@ pub(crate) struct FailedModel {
     pub(crate) short: String,
     pub(crate) why: String,
 
-    /// The whole output in a page and in a summary, if `why` does not show all of it.
+    /// The reason in a summary, if that is shorter than `why`.
+    pub(crate) summary_why: Option<String>,
+
+    /// The whole output in a page and in a summary, if the reason there does not show all of it.
     pub(crate) page_output: Option<WholeOutput>,
     pub(crate) summary_output: Option<WholeOutput>,
 }
@@ -355,9 +360,11 @@ impl ModelBuilder {
         self.slowest.add(test.time, || title(test));
         let why = failure.why();
         let stdout = failure.failure.stdout.as_deref();
-        let left_out = stdout.filter(|_| why.hidden > 0 || front(&why.text, limit) != why.text);
-        let page = left_out.filter(|_| self.wanted.page);
-        let summary = left_out.filter(|_| self.wanted.summary);
+        let leaves_out = |limit| why.hidden > 0 || front(&why.text, limit) != why.text;
+        let page = stdout.filter(|_| self.wanted.page && leaves_out(limit));
+        let summary_limit = limit.min(MOST_BYTES_OF_TEXT);
+        let summary = stdout.filter(|_| self.wanted.summary && leaves_out(summary_limit));
+        let is_shorter = self.wanted.summary && summary_limit < why.text.len().min(limit);
         let failed = FailedModel {
             order: self.failed,
             result: FailedResult::of(&failure.failure.kind),
@@ -372,6 +379,7 @@ impl ModelBuilder {
             output: stdout.filter(|_| self.wanted.all_tests).map(str::to_string),
             short: front(&failure.short, limit).to_string(),
             why: limited(why, limit),
+            summary_why: is_shorter.then(|| limited(why, summary_limit)),
             page_output: page.and_then(|output| self.page_room.take(output)),
             summary_output: summary.and_then(|output| self.summary_room.take(output)),
         };

@@ -150,6 +150,25 @@ impl Template {
     }
 }
 
+impl Template {
+    /// Returns the parts that the template has for each item of a list in a section.
+    pub(crate) fn item_parts(self, section: &str, list: &str) -> Vec<Part> {
+        parts_for(parts_for(self.parts(), section), list)
+    }
+}
+
+/// Returns what these parts have for each item of a list.
+fn parts_for(parts: Vec<Part>, list: &str) -> Vec<Part> {
+    let found = parts.into_iter().find_map(|part| match part {
+        Part::Each { name, parts } => (name == list).then_some(parts),
+        Part::Text(_) | Part::Hole { .. } | Part::Otherwise { .. } => None,
+    });
+    match found {
+        Some(parts) => parts,
+        None => unreachable!("the template has no list {list}"),
+    }
+}
+
 /// A document that a template rendered.
 pub struct Document {
     text: String,

@@ -15,27 +15,34 @@
 //! | `slowest` | a `slow` test with `name`, `share` (of the longest time, in hundredths) and `seconds` |
 //! | `skips` | a `skip` with `name` and `reason`: a skipped test that has a reason |
 //! | `flaky_tests` | a `test` with `name`, `attempts` and `time`: one that passed after several attempts |
-//! | `more` | the failed tests that a summary leaves out, if there are some: a `count` |
+//! | `more` | the failed tests that a summary leaves out, if there are some: a `count`. The template has nothing for other problems, so their number is the `line` of a last one |
 //! | `ran`, `no_tests` | the run in a summary: its `outcome`, or that no test ran |
 //!
 //! A `note` has `attempts` with a `count`, if there were several, and a `time`. A `time` has `seconds`. If a `line`, a
 //! `short`, or the `name` of a failed test or of its suite has an `@`, there is an item without values beside it:
 //! `line_code`, `short_code` or `name_code`.
 
-use crate::report::escape::{name, text};
+use crate::report::annotations::limited_text;
+use crate::report::escape::{name, shortened, text};
 use crate::report::model::{
     CaseModel, FailedModel, FailedResult, FlakyModel, ProblemModel, ReportModel, Seconds,
     SuiteModel, TestKind,
 };
 use crate::report::numbers::Numbers;
 use crate::report::output::{Document, Template};
-use crate::report::whole_output::WholeOutput;
+use crate::report::whole_output::{MOST_BYTES_OF_TEXT, WholeOutput};
 use crate::report::words::{seconds_text, suite_name};
-use crate::template::{Value, push_item, push_section, push_text, render};
+use crate::template::{Part, Value, push_item, push_section, push_text, render};
 
-/// The summary shows failed tests until their rows and details have this number of bytes. GitHub shows a summary of at
-/// most 1 MiB.
+/// The most bytes that the problems and the failed tests of a summary have together. GitHub shows nothing of a summary
+/// of more than 1 MiB. The first problem and the first failed test always fit, because the parts of both are cut.
 const MOST_BYTES: usize = 900_000;
+
+/// The most bytes that the problems of a summary have, so that there is room for failed tests.
+const MOST_BYTES_OF_PROBLEMS: usize = 450_000;
+
+/// The most bytes of the short reason of a failed test in a summary.
+const MOST_BYTES_OF_SHORT: usize = 4_096;
 
 /// How many values most failed tests have.
 const FAILED_VALUES: usize = 6;
@@ -118,9 +125,9 @@ impl Values {
 pub(crate) fn page(model: &mut ReportModel, is_last: bool) -> Document {
     let failures: Vec<_> = failures(model)
         .into_iter()
-        .map(|failure| {
-            let output = failure.failed.page_output.take();
-            failure.values(output, is_last)
+        .map(|mut failure| {
+            let reason = failure.reason_on_page();
+            failure.values(reason, is_last)
         })
         .collect();
     let longest = model.slowest.first().map_or(0, |slow| slow.0).max(1);
@@ -154,21 +161,29 @@ pub(crate) fn page(model: &mut ReportModel, is_last: bool) -> Document {
         .rendered(Template::Page)
 }
 
-/// Returns the summary of a report in Markdown. It has only the first of many failed tests. If it is the last document,
-/// the texts of the model are dropped while values are made.
+/// Returns the summary of a report in Markdown. It has only the first of many problems and of many failed tests. If it is
+/// the last document, the texts of the model are dropped while values are made.
 pub(crate) fn summary(model: &mut ReportModel, is_last: bool) -> Document {
+    let mut room = Room(MOST_BYTES_OF_PROBLEMS);
+    let parts = Template::Summary.item_parts("problems", "problem");
+    let mut problems = room.fitting(&parts, model.problems.iter().map(problem_in_summary));
+    let more = model.problems.len() - problems.len();
+    if more > 0 {
+        problems.push(more_problems(more));
+    }
+    room.0 += MOST_BYTES - MOST_BYTES_OF_PROBLEMS;
     let failures = failures(model);
     let count = failures.len();
-    let shown: Vec<_> = fitting(failures, is_last).collect();
+    let shown = failures.into_iter().map(|mut failure| {
+        let reason = failure.reason_in_summary();
+        failure.values(reason, is_last)
+    });
+    let shown = room.fitting(&Template::FailedTest.parts(), shown);
     let more = count - shown.len();
     // The template itself has the word for a run in which no test ran: its hyphens would be references in a value.
     let outcome = (!model.is_empty).then(|| Values::of("outcome", model.outcome));
     run_values(model)
-        .section(
-            "problems",
-            "problem",
-            model.problems.iter().map(problem_values),
-        )
+        .section("problems", "problem", problems.into_iter())
         .section("failures", "failed", shown.into_iter())
         .some(
             "more",
@@ -179,21 +194,22 @@ pub(crate) fn summary(model: &mut ReportModel, is_last: bool) -> Document {
         .rendered(Template::Summary)
 }
 
-/// Returns the first failed tests, until their rows and details fill the summary.
-fn fitting(failures: Vec<Failure<'_>>, is_last: bool) -> impl Iterator<Item = Values> {
-    let parts = Template::FailedTest.parts();
-    let mut room = MOST_BYTES;
-    failures.into_iter().map_while(move |failure| {
-        if room == 0 {
-            return None;
-        }
-        let output = failure.failed.summary_output.take();
-        let values = failure.values(output, is_last);
-        let mut text = String::new();
-        render(&mut text, &parts, &values.0);
-        room = room.saturating_sub(text.len());
-        Some(values)
-    })
+/// How many bytes a summary still has room for.
+struct Room(usize);
+
+impl Room {
+    /// Returns the values of the first items, as long as what these parts of a template render of them fits, and takes
+    /// that room.
+    fn fitting(&mut self, parts: &[Part], items: impl Iterator<Item = Values>) -> Vec<Values> {
+        items
+            .map_while(|values| {
+                let mut text = String::new();
+                render(&mut text, parts, &values.0);
+                self.0 = self.0.checked_sub(text.len())?;
+                Some(values)
+            })
+            .collect()
+    }
 }
 
 /// Returns the numbers and the time of a run.
@@ -234,12 +250,30 @@ fn bar_parts(numbers: Numbers) -> impl Iterator<Item = Values> {
 
 /// Returns the values of a problem.
 fn problem_values(problem: &ProblemModel) -> Values {
-    Values::of("line", &problem.line)
-        .some(
-            "why",
-            problem.shown_why().map(|why| Values::of("text", why)),
-        )
-        .mark("line_code", problem.line.contains('@'))
+    values_of_problem(&problem.line, problem.shown_why())
+}
+
+/// Returns the values of a problem in a summary, where its line and what explains it are cut.
+fn problem_in_summary(problem: &ProblemModel) -> Values {
+    let line = shortened(&problem.line, MOST_BYTES_OF_TEXT);
+    let why = problem.why.as_deref();
+    values_of_problem(
+        &line,
+        why.map(|why| text(&limited_text(why, MOST_BYTES_OF_TEXT))),
+    )
+}
+
+/// Returns the values of the problem that a summary leaves out so many others.
+fn more_problems(count: usize) -> Values {
+    let line = format!("({count} more problems: a summary on GitHub holds 1 MiB)");
+    values_of_problem(&line, None)
+}
+
+/// Returns the values of a problem with this line and, if anything explains it, with this explanation.
+fn values_of_problem(line: &str, why: Option<String>) -> Values {
+    Values::of("line", line)
+        .some("why", why.map(|why| Values::of("text", why)))
+        .mark("line_code", line.contains('@'))
 }
 
 /// Returns the row of a suite.
@@ -278,6 +312,15 @@ fn failures(model: &mut ReportModel) -> Vec<Failure<'_>> {
     failures
 }
 
+/// What a document shows of why a test failed. The texts are escaped.
+struct Reason {
+    short: String,
+    why: String,
+
+    /// The whole output, if it is shown.
+    output: Option<WholeOutput>,
+}
+
 impl<'a> Failure<'a> {
     /// Returns the failed test of a case of a suite.
     fn of(suite: Option<&'a str>, case: &'a mut CaseModel) -> Option<Failure<'a>> {
@@ -300,11 +343,31 @@ impl<'a> Failure<'a> {
         }
     }
 
-    /// Returns the values of the test, with its whole output if there is one.
-    fn values(self, output: Option<WholeOutput>, is_last: bool) -> Values {
+    /// Returns what a page shows of why the test failed.
+    fn reason_on_page(&mut self) -> Reason {
+        Reason {
+            short: text(&self.failed.short),
+            why: text(&self.failed.why),
+            output: self.failed.page_output.take(),
+        }
+    }
+
+    /// Returns what a summary shows of why the test failed.
+    fn reason_in_summary(&mut self) -> Reason {
+        let failed = &mut *self.failed;
+        let why = failed.summary_why.take();
+        Reason {
+            short: text(&shortened(&failed.short, MOST_BYTES_OF_SHORT)),
+            why: text(why.as_deref().unwrap_or(&failed.why)),
+            output: failed.summary_output.take(),
+        }
+    }
+
+    /// Returns the values of the test.
+    fn values(self, reason: Reason, is_last: bool) -> Values {
         let failed = self.failed;
-        let (test_name, short) = (name(self.test), text(&failed.short));
-        let why = text(&failed.why);
+        let Reason { short, why, output } = reason;
+        let test_name = name(self.test);
         if is_last {
             failed.short = String::new();
             failed.why = String::new();

@@ -19,9 +19,12 @@ pub(crate) const PAGE_ROOM: OutputRoom = OutputRoom {
     left: 16_777_216,
 };
 
+/// The most bytes of a reason, of an output and of the line of a problem in a summary, before they are escaped.
+pub(crate) const MOST_BYTES_OF_TEXT: usize = 16_384;
+
 /// The room of a summary. After this number of bytes it has no failed tests either.
 pub(crate) const SUMMARY_ROOM: OutputRoom = OutputRoom {
-    each: 16_384,
+    each: MOST_BYTES_OF_TEXT,
     left: 900_000,
 };
 

@@ -98,13 +98,13 @@ fn a_summary_has_texts_with_an_at_sign_as_code() {
     }
 }
 
-/// Returns the summary of a run with this number of failed tests, each with a message of this number of bytes.
-fn long_summary(count: usize, size: usize) -> String {
+/// Returns the summary of a run with a failed test for each of these messages.
+fn summary_of(messages: &[String]) -> String {
+    let count = messages.len();
     let mut lines =
         format!("{{\"type\":\"suite\",\"event\":\"started\",\"test_count\":{count}}}\n");
-    for number in 1..=count {
-        let name = format!("\"name\":\"t{number:03}\"");
-        let message = "m".repeat(size);
+    for (place, message) in messages.iter().enumerate() {
+        let name = format!("\"name\":\"t{:03}\"", place + 1);
         lines += &format!(
             "{{\"type\":\"test\",\"event\":\"started\",{name}}}\n\
              {{\"type\":\"test\",\"event\":\"failed\",{name},\"message\":\"{message}\"}}\n"
@@ -114,16 +114,21 @@ fn long_summary(count: usize, size: usize) -> String {
     reported(OPTIONS, Format::Markdown, &[&lines]).0
 }
 
-/// Returns the number of bytes that a failed test with a message of this number of bytes has in the summary.
-fn size_in_summary(size: usize) -> usize {
-    let one = long_summary(1, size);
+/// Returns the summary of a run with this number of failed tests, each with a message of this number of bytes.
+fn long_summary(count: usize, size: usize) -> String {
+    summary_of(&vec!["m".repeat(size); count])
+}
+
+/// Returns the number of bytes that a failed test with this message has in the summary.
+fn size_in_summary(message: &str) -> usize {
+    let one = summary_of(&[message.to_owned()]);
     let row = one.find("| FAIL").expect("there is a row");
     one.len() - row - 1
 }
 
 #[test]
-fn a_summary_ends_after_900_000_bytes_of_failed_tests() {
-    let most = 900_000_usize.div_ceil(size_in_summary(3_000));
+fn a_summary_has_at_most_900_000_bytes_of_failed_tests() {
+    let most = 900_000 / size_in_summary(&"m".repeat(3_000));
     for (count, shown) in [
         (most - 1, most - 1),
         (most, most),
@@ -149,15 +154,23 @@ fn a_summary_ends_after_900_000_bytes_of_failed_tests() {
 }
 
 #[test]
-fn a_summary_has_another_failed_test_if_less_than_100_bytes_are_left() {
-    // Each byte of the message is in the row and in the details.
-    let more = size_in_summary(3_000) - 2 * 3_000;
-    let (size, fitting) = (2_000..4_000)
-        .map(|size| (size, 900_000 / (more + 2 * size)))
-        .find(|(size, fitting)| (1..100).contains(&(900_000 - fitting * (more + 2 * size))))
-        .expect("a message leaves a few bytes");
-    let summary = long_summary(fitting + 2, size);
-    let rows = summary.matches("\n| FAIL | suite 1 t").count();
-    assert_eq!(rows, fitting + 1);
-    assert!(summary.ends_with("\n(1 more failed tests: a summary on GitHub holds 1 MiB)\n"));
+fn a_summary_has_another_failed_test_if_it_fits_exactly() {
+    let (one, long) = (3_000..3_100)
+        .map(|size| "m".repeat(size))
+        .map(|long| (size_in_summary(&long), long))
+        .find(|(one, _)| (1_000..4_000).contains(&(900_000 % one)))
+        .expect("a message leaves some bytes");
+    let (before, left) = (900_000 / one, 900_000 % one);
+    // Bytes of the second line are in the details alone.
+    let first_line = "m".repeat(100);
+    let second = left - size_in_summary(&format!("{first_line}\\nn")) + 1;
+    for (size, more) in [(second, 0), (second + 1, 1)] {
+        let mut messages = vec![long.clone(); before];
+        messages.push(format!("{first_line}\\n{}", "n".repeat(size)));
+        let summary = summary_of(&messages);
+        let rows = summary.matches("\n| FAIL | suite 1 t").count();
+        assert_eq!(rows, before + 1 - more);
+        let last = format!("\n({more} more failed tests: a summary on GitHub holds 1 MiB)\n");
+        assert_eq!(summary.ends_with(&last), more > 0);
+    }
 }
