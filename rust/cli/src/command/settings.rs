@@ -5,14 +5,10 @@ use super::conditions::holds;
 use super::stand_in::BOOTSTRAP;
 use serde_json::{Map, Value};
 use std::env;
-use std::ffi::OsString;
 use std::process::{Command, Output, Stdio};
 
 /// The variables that name a rustdoc.
 const RUSTDOC_VARIABLES: [&str; 2] = ["RUSTDOC", "CARGO_BUILD_RUSTDOC"];
-
-/// The variables that name a rustc.
-const RUSTC_VARIABLES: [&str; 2] = ["RUSTC", "CARGO_BUILD_RUSTC"];
 
 /// Returns true if a variable or cargo's settings name a rustdoc, or a runner for a target of a command or for a condition
 /// that may hold for one. If they cannot be read, returns what is known without them.
@@ -34,9 +30,7 @@ pub fn names_other_program(cargo: &CargoCommand) -> bool {
     }
     let targets = targets_of(cargo, &settings);
     is_for_one(&runners, &targets)
-        || has_condition_for_one(&runners, &targets, |target| {
-            facts_of(cargo, &settings, target)
-        })
+        || has_condition_for_one(&runners, &targets, |target| facts_of(cargo, target))
 }
 
 /// The target for which a runner is set.
@@ -141,38 +135,30 @@ fn host_of(cargo: &CargoCommand) -> Option<String> {
     Some(host.to_string())
 }
 
-/// Returns what rustc says of a target, one fact a line, or `None` if it fails.
-fn facts_of(cargo: &CargoCommand, settings: &Map<String, Value>, target: &str) -> Option<String> {
-    let output = rustc_of(cargo, settings)
-        .args(["--print", "cfg", "--target", target])
-        .stdin(Stdio::null())
-        .stderr(Stdio::null())
-        .output()
-        .ok()?;
-    let is_said = output.status.success();
-    is_said.then(|| String::from_utf8(output.stdout).ok())?
+/// Returns what rustc says of a target, one fact a line, or `None` if it fails. Cargo starts the rustc, as only cargo
+/// knows which one is meant: a path in its settings is relative to the folder of the file that has it.
+fn facts_of(cargo: &CargoCommand, target: &str) -> Option<String> {
+    let mut arguments = config_arguments(cargo);
+    arguments.extend(["-Z", "unstable-options", "rustc"]);
+    if let Some(manifest) = values_of(cargo.own, "--manifest-path").last() {
+        arguments.extend(["--manifest-path", manifest]);
+    }
+    arguments.extend(["--print", "cfg", "--target", target]);
+    String::from_utf8(answer_of(cargo, &arguments)?.stdout).ok()
 }
 
-/// Returns the rustc that a command uses: the one that a variable or the settings name, or that of its toolchain.
-fn rustc_of(cargo: &CargoCommand, settings: &Map<String, Value>) -> Command {
-    let named = RUSTC_VARIABLES.iter().find_map(env::var_os);
-    let build = settings.get("build");
-    let set = build.and_then(|build| build.get("rustc")?.as_str());
-    if let Some(program) = named.or_else(|| set.map(OsString::from)) {
-        return Command::new(program);
-    }
-    let mut command = Command::new("rustc");
-    let toolchain = cargo.before.get(1).and_then(|word| word.to_str());
-    command.args(toolchain.filter(|word| word.starts_with('+')));
-    command
+/// Returns the arguments that give cargo the settings after its subcommand.
+fn config_arguments<'a>(cargo: &CargoCommand<'a>) -> Vec<&'a str> {
+    let settings = values_of(cargo.own, "--config");
+    settings
+        .into_iter()
+        .flat_map(|setting| ["--config", setting])
+        .collect()
 }
 
 /// Returns the settings that cargo reads for a command, or `None` if cargo does not say them.
 fn settings_of(cargo: &CargoCommand) -> Option<Map<String, Value>> {
-    let mut arguments = Vec::new();
-    for setting in values_of(cargo.own, "--config") {
-        arguments.extend(["--config", setting]);
-    }
+    let mut arguments = config_arguments(cargo);
     // Stable versions of cargo have this command, but it may change.
     arguments.extend([
         "-Z",
@@ -290,28 +276,18 @@ mod tests {
     }
 
     #[test]
-    fn rustc_is_the_one_that_cargo_uses() {
-        let words = ["cargo", "+nightly", "test"].map(Into::into);
-        let cargo = CargoCommand::of(&words).expect("the command runs tests");
-        let of_toolchain = rustc_of(&cargo, &Map::new());
-        assert_eq!(of_toolchain.get_program(), "rustc");
-        assert_eq!(of_toolchain.get_args().collect::<Vec<_>>(), ["+nightly"]);
-        let set = rustc_of(&cargo, &settings(r#"{"build":{"rustc":"/a/rustc"}}"#));
-        assert_eq!(
-            (set.get_program(), set.get_args().count()),
-            ("/a/rustc".as_ref(), 0)
-        );
-    }
-
-    #[test]
     fn rustc_says_what_a_target_is() {
-        let words = ["cargo", "test"].map(Into::into);
+        let manifest = concat!(
+            "--manifest-path=",
+            env!("CARGO_MANIFEST_DIR"),
+            "/Cargo.toml"
+        );
+        let words = ["cargo", "test", "--config", "build.jobs=1", manifest].map(Into::into);
         let cargo = CargoCommand::of(&words).expect("the command runs tests");
-        let facts =
-            facts_of(&cargo, &Map::new(), "wasm32-unknown-unknown").expect("rustc knows it");
+        let facts = facts_of(&cargo, "wasm32-unknown-unknown").expect("rustc knows it");
         assert_eq!(holds("cfg(target_arch = \"wasm32\")", &facts), Some(true));
         assert_eq!(holds("cfg(unix)", &facts), Some(false));
-        assert_eq!(facts_of(&cargo, &Map::new(), "no-such-target"), None);
+        assert_eq!(facts_of(&cargo, "no-such-target"), None);
     }
 
     #[test]
