@@ -1,6 +1,5 @@
 //! Reads the files of a run, or what its command writes, and shows the progress meanwhile.
 
-use crate::command::repeated::Repeated;
 use crate::interrupt::Interrupt;
 use crate::others::Others;
 use crate::output_files::STANDARD_INPUT;
@@ -122,9 +121,6 @@ pub struct RunReader<'a, 'line, W: Write> {
     shows_progress: bool,
     starts: StartTimes,
 
-    /// True if the report was told why the run is cancelled.
-    is_cancelled: bool,
-
     /// The message after Ctrl-C, until it was written. It is absent from the start if nobody would read it.
     message: Option<&'static str>,
 }
@@ -148,7 +144,6 @@ impl<'a, 'line, W: Write> RunReader<'a, 'line, W> {
             interrupt,
             shows_progress,
             starts: StartTimes::default(),
-            is_cancelled: false,
             message: has_reader.then_some(STILL_READING),
         }
     }
@@ -219,7 +214,7 @@ impl<'a, 'line, W: Write> RunReader<'a, 'line, W> {
 
     /// Passes the lines that end in a piece of a file to the report.
     fn take_piece(&mut self, piece: &[u8]) -> Result<(), Fault> {
-        self.cancel_once();
+        self.note_cancel();
         let mut line = std::mem::take(&mut self.begun);
         let mut rest = piece;
         while let Some(at) = rest.find_byte(b'\n') {
@@ -230,20 +225,21 @@ impl<'a, 'line, W: Write> RunReader<'a, 'line, W> {
         }
         line.extend_from_slice(rest);
         self.begun = line;
-        if self.report.run().has_suite() {
-            self.streams.others.repeated = Repeated::default();
-            if self.shows_progress {
-                self.streams.line.borrow_mut().note_input();
-            }
+        if self.report.run().has_suite() && self.shows_progress {
+            self.streams.line.borrow_mut().note_input();
         }
         Ok(())
     }
 
-    /// Passes a line to the report.
+    /// Passes a line to the report. From the first suite on cargo repeats no line: tests print what is passed on.
     fn take_line(&mut self, line: &[u8]) -> Result<(), Fault> {
         let streams = &mut *self.streams;
         self.report
-            .on_line(line, &mut streams.output, &mut streams.others)
+            .on_line(line, &mut streams.output, &mut streams.others)?;
+        if self.report.run().has_suite() {
+            streams.others.repeated.clear();
+        }
+        Ok(())
     }
 
     /// Passes the rest of the last line to the report. It is a line unless it is empty.
@@ -255,12 +251,10 @@ impl<'a, 'line, W: Write> RunReader<'a, 'line, W> {
         self.take_line(&line)
     }
 
-    /// Tells the report, once, why the run is cancelled, if a signal has come.
-    fn cancel_once(&mut self) {
-        if let Some(reason) = self.interrupt.reason()
-            && !self.is_cancelled
-        {
-            self.is_cancelled = true;
+    /// Tells the report why the run is cancelled, if a signal has come. If Ctrl-C comes after SIGTERM, the report is told
+    /// both.
+    fn note_cancel(&mut self) {
+        if let Some(reason) = self.interrupt.reason() {
             self.report.cancel(reason);
         }
     }

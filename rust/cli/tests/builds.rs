@@ -3,7 +3,7 @@
 
 mod common;
 
-use common::{Folder, Running, command, read_until, soon, started, wait_for};
+use common::{Folder, Running, command, read_until, run, soon, started, wait_for};
 use std::fs;
 use std::process::{Command, Output};
 
@@ -79,6 +79,32 @@ warning: unused
     assert_failed(&output, report, passed_on);
     let output = output_of(&folder, &["--others", "never"], BUILDS);
     assert!(output.stderr.is_empty());
+}
+
+/// A cargo that says with `-q` neither that it compiles nor that it has finished. It repeats a warning, and then a test
+/// prints the same line.
+const QUIET_CARGO: &str = r#"#!/bin/sh
+case " $* " in
+*' --no-run '*) echo "warning: unused" >&2; exit 0 ;;
+esac
+cat <<'END'
+warning: unused
+{ "type": "suite", "event": "started", "test_count": 1 }
+warning: unused
+{ "type": "test", "event": "started", "name": "adds" }
+{ "type": "test", "event": "ok", "name": "adds" }
+{ "type": "suite", "event": "ok", "passed": 1, "failed": 0 }
+END
+"#;
+
+#[test]
+fn what_a_test_prints_is_passed_on_even_if_it_equals_a_warning_of_the_build() {
+    let folder = Folder::new("quiet");
+    let cargo = folder.script("cargo", QUIET_CARGO);
+    let output = run("test-report", &["--", &cargo, "test", "-q"], b"");
+    let passed_on = String::from_utf8_lossy(&output.stderr);
+    assert_eq!(passed_on, "warning: unused\nwarning: unused\n");
+    assert_eq!(output.status.code(), Some(0));
 }
 
 #[test]

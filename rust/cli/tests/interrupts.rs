@@ -5,7 +5,7 @@ mod common;
 
 use common::{Folder, Running, command, read_until, soon, start, started, wait_for};
 use std::fs::{self, OpenOptions};
-use std::io::{Read, Write};
+use std::io::{self, Read, Write};
 use std::os::unix::process::ExitStatusExt;
 use std::process::{Child, ChildStderr, Command, ExitStatus};
 use std::thread;
@@ -123,6 +123,35 @@ fn two_signals_at_once_are_one() {
         // On a busy machine the second signal may come too late.
         assert!((0..5).any(|_| survives(signal, again)), "{signal} {again}");
     }
+}
+
+/// Sends SIGTERM to a program, and Ctrl-C after it has read another line. Returns true if it then writes its report, with
+/// the tests that became known later shown as after Ctrl-C.
+fn is_interrupted_after_sigterm() -> bool {
+    let mut running = start(&[]);
+    running
+        .stdin
+        .write_all(FAILED.as_bytes())
+        .expect("the program reads");
+    let (first, stdout) = read_until(running.stdout, "    Error: no such currency\n");
+    send("TERM", &running.child);
+    running
+        .stdin
+        .write_all(b"a print\n")
+        .expect("the program still reads");
+    let stderr = wait_for(running.stderr, "a print\n");
+    send("INT", &running.child);
+    // If the program has ended, nobody reads this.
+    let _ = running.stdin.write_all(LATER.as_bytes());
+    drop((running.stdin, stderr));
+    let rest = io::read_to_string(stdout).expect("the report is text");
+    end_of(running.child).code() == Some(1) && first + &rest == report_after("INT")
+}
+
+#[test]
+fn ctrl_c_decides_what_is_shown_if_it_comes_after_sigterm() {
+    // On a busy machine the second signal may come too late.
+    assert!((0..5).any(|_| is_interrupted_after_sigterm()));
 }
 
 #[test]
@@ -255,6 +284,37 @@ fn the_first_sigterm_is_sent_on_to_the_command() {
     assert_eq!([first, rest].concat(), report_after("TERM"));
     assert_eq!(end_of(running.child).code(), Some(1));
     drop((running.stdin, running.stderr));
+}
+
+/// A script that closes its output, and then waits for SIGTERM.
+const CLOSED: &str = r#"
+trap ': >"$1/got"; exit 3' TERM
+printf '%s\n' "$FAILED" "$LATER"
+exec >&- 2>&-
+: >"$1/closed"
+while [ -d "$1" ]; do sleep 0.05; done
+"#;
+
+#[test]
+fn sigterm_is_sent_on_to_a_command_that_has_closed_its_output() {
+    let folder = Folder::new("closed");
+    let mut command = command("test-report", &["--", "sh", "-c", CLOSED, "sh"]);
+    command
+        .arg(folder.file(""))
+        .env("FAILED", FAILED.trim_end())
+        .env("LATER", LATER.trim_end());
+    let running = started(&mut command);
+    let closed = folder.0.join("closed");
+    soon("the end of the output", move || {
+        while !closed.exists() {
+            thread::yield_now();
+        }
+    });
+    // Meanwhile the program sees that the output has ended.
+    thread::sleep(Duration::from_millis(500));
+    send("TERM", &running.child);
+    assert_eq!(end_of(running.child).code(), Some(1));
+    assert!(folder.0.join("got").exists());
 }
 
 /// Runs the command with a report that shows twice why tests failed, sends a signal after the first failed test, and

@@ -306,7 +306,7 @@ fn a_second_signal_while_a_file_is_written_leaves_nothing_behind() {
         stderr,
     } = start(&["--junit", &folder.file("a")]);
     // It takes a while to write the output of this test.
-    let output = "line\\n".repeat(10_000_000);
+    let output = "line\\n".repeat(4_000_000);
     let failed = format!(
         "{}{{ \"type\": \"test\", \"name\": \"adds\", \"event\": \"failed\", \"stdout\": \"{output}\" }}\n",
         RUN.lines().take(2).collect::<Vec<_>>().join("\n") + "\n"

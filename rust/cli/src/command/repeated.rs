@@ -37,6 +37,11 @@ impl Repeated {
         }
         is_repeated
     }
+
+    /// Forgets the lines of the build: from now on no line repeats one.
+    pub fn clear(&mut self) {
+        self.lines.clear();
+    }
 }
 
 /// Returns the part of a line that is the same if cargo writes the line again.

@@ -52,7 +52,7 @@ impl<W: Write> RunReader<'_, '_, W> {
                 self.run(&prepared)?
             }
         };
-        self.cancel_once();
+        self.note_cancel();
         self.end_line()?;
         Ok(end)
     }
