@@ -24,7 +24,7 @@ const CARGO: &str = r#"#!/bin/sh
 case " $* " in
 *' config get '*) printf '%s\n' "$SETTINGS"; exit ;;
 *' -vV '*) echo 'host: x86_64-unknown-linux-gnu'; exit ;;
-*' rustc '*) echo unix; exit ;;
+*' rustc '*) echo "$*" >"$0.asked"; echo unix; exit ;;
 *' --no-run '*) exit ;;
 esac
 echo "bootstrap=$RUSTC_BOOTSTRAP arguments=$*" >&2
@@ -56,12 +56,14 @@ fn a_runner_or_a_rustdoc_of_the_user_is_left_in_its_place() {
     let wasm = Some("CARGO_BUILD_TARGET");
     let with_target =
         r#"{"build":{"target":"wasm32-wasip1"},"target":{"wasm32-wasip1":{"runner":"r"}}}"#;
-    let cases: [(&str, Option<&str>, &[&str]); 8] = [
+    let runner = Some("CARGO_TARGET_WASM32_WASIP1_RUNNER");
+    let cases: [(&str, Option<&str>, &[&str]); 9] = [
         (r#"{"build":{"rustdoc":"a"}}"#, None, &[]),
         ("{}", Some("RUSTDOC"), &[]),
         ("{}", Some("CARGO_BUILD_RUSTDOC"), &[]),
         (WASM_RUNNER, wasm, &[]),
         (WASM_RUNNER, None, &["--target", "wasm32-wasip1"]),
+        ("{}", runner, &["--target", "wasm32-wasip1"]),
         (with_target, None, &[]),
         (
             r#"{"target":{"x86_64-unknown-linux-gnu":{"runner":"r"}}}"#,
@@ -102,6 +104,19 @@ fn other_settings_cost_nothing() {
 }
 
 #[test]
+fn cargo_asks_the_rustc_of_the_same_settings_and_of_the_same_package() {
+    let folder = Folder::new("asked");
+    folder.script("cargo", CARGO);
+    let settings = r#"{"target":{"cfg(windows)":{"runner":"r"}}}"#;
+    let words = ["--manifest-path=a/Cargo.toml", "--config", "a=1"];
+    seen(&folder, settings, None, &words);
+    let asked = fs::read_to_string(folder.file("cargo.asked"));
+    let wanted = "--config a=1 -Z unstable-options rustc --manifest-path a/Cargo.toml --print cfg \
+                  --target x86_64-unknown-linux-gnu\n";
+    assert_eq!(asked.expect("cargo was asked"), wanted);
+}
+
+#[test]
 fn the_subcommand_runs_the_cargo_that_started_it() {
     let folder = Folder::new("own-cargo");
     let cargo = folder.script("cargo", CARGO);
@@ -125,9 +140,8 @@ const WRONG: &str = "#!/bin/sh\n: >wrong\nexit 1\n";
 const SETTINGS: &str =
     "[build]\nrustc = \"bin/rustc\"\n[target.'cfg(windows)']\nrunner = \"none\"\n";
 
-#[test]
-fn the_rustc_of_the_settings_is_the_one_that_cargo_starts() {
-    let folder = Folder::new("rustc");
+/// Writes a package in a folder, and settings in the folder above it with another rustc than the package has.
+fn write_package(folder: &Folder) {
     for inner in [".cargo", "bin", "money/bin", "money/src"] {
         fs::create_dir_all(folder.0.join(inner)).expect("it is new");
     }
@@ -142,22 +156,39 @@ fn the_rustc_of_the_settings_is_the_one_that_cargo_starts() {
     ] {
         fs::write(folder.0.join(name), text).expect("the folder is there");
     }
-    let mut command = command("test-report", &["--", env!("CARGO"), "test", "--lib"]);
+}
+
+/// Runs a command, which must succeed, in the package of a folder. Returns what it wrote to standard error, and what
+/// cargo keeps of what rustc says.
+fn run_in_package(folder: &Folder, target: &str, command: &mut Command) -> (String, String) {
+    let target = folder.0.join(target);
+    // Before the first build cargo keeps nothing if there is no such folder.
+    fs::create_dir(&target).expect("it is new");
     for name in VARIABLES.iter().chain(&["RUSTC"]) {
         command.env_remove(name);
     }
-    run_in(&mut command, &folder);
-    assert!(!folder.0.join("money/wrong").exists());
-}
-
-/// Runs a command in the package of a folder, and asserts that its tests passed and that no message says what the
-/// variable for all of cargo costs.
-fn run_in(command: &mut Command, folder: &Folder) {
     command
         .env("CARGO_NET_OFFLINE", "true")
+        .env("CARGO_TARGET_DIR", &target)
         .current_dir(folder.0.join("money"));
     let output = command.output().expect("the program runs");
-    let messages = String::from_utf8_lossy(&output.stderr);
-    assert!(!messages.contains("RUSTC_BOOTSTRAP"), "{messages}");
+    let messages = String::from_utf8_lossy(&output.stderr).into_owned();
     assert_eq!(output.status.code(), Some(0), "{messages}");
+    let kept = fs::read_to_string(target.join(".rustc_info.json"));
+    (messages, kept.expect("cargo keeps it"))
+}
+
+#[test]
+fn the_rustc_of_the_settings_is_the_one_that_cargo_starts() {
+    let folder = Folder::new("rustc");
+    write_package(&folder);
+    let words = ["--", env!("CARGO"), "test", "--lib"];
+    let (messages, kept) = run_in_package(&folder, "reported", &mut command("test-report", &words));
+    assert!(!folder.0.join("money/wrong").exists());
+    assert!(!messages.contains("RUSTC_BOOTSTRAP"), "{messages}");
+    // Only with unstable options does rustc say this of a target.
+    let unstable = "target_thread_local";
+    let mut cargo_test = Command::new(env!("CARGO"));
+    let (_, by_cargo) = run_in_package(&folder, "plain", cargo_test.args(["test", "--lib"]));
+    assert_eq!(kept.contains(unstable), by_cargo.contains(unstable));
 }

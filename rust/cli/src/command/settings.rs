@@ -10,6 +10,10 @@ use std::process::{Command, Output, Stdio};
 /// The variables that name a rustdoc.
 const RUSTDOC_VARIABLES: [&str; 2] = ["RUSTDOC", "CARGO_BUILD_RUSTDOC"];
 
+/// The variable with which cargo keeps in `target/` what rustc says, unless it is `0`. Later runs of cargo would take what
+/// it says for unstable options.
+const CACHE: &str = "CARGO_CACHE_RUSTC_INFO";
+
 /// Returns true if a variable or cargo's settings name a rustdoc, or a runner for a target of a command or for a condition
 /// that may hold for one. If they cannot be read, returns what is known without them.
 pub fn names_other_program(cargo: &CargoCommand) -> bool {
@@ -180,6 +184,7 @@ fn answer_of(cargo: &CargoCommand, arguments: &[&str]) -> Option<Output> {
         .args(before)
         .args(arguments)
         .env(BOOTSTRAP, "1")
+        .env(CACHE, "0")
         .stdin(Stdio::null())
         .stderr(Stdio::null());
     let output = command.output().ok()?;

@@ -263,7 +263,7 @@ fn problem_in_summary(problem: &ProblemModel) -> Values {
     )
 }
 
-/// Returns the values of the problem that a summary leaves out so many others.
+/// Returns the values of the last problem of a summary that leaves out this number of others.
 fn more_problems(count: usize) -> Values {
     let line = format!("({count} more problems: a summary on GitHub holds 1 MiB)");
     values_of_problem(&line, None)
