@@ -284,9 +284,12 @@ fn a_second_signal_leaves_nothing_behind() {
     assert!(names_in(&folder.0).is_empty());
 }
 
-/// Returns true if a temporary folder is in a folder.
+/// Returns true if a temporary folder is in a folder. It may be removed at any time.
 fn has_temporary(folder: &Path) -> bool {
-    names_in(folder).iter().any(|name| name.ends_with(".new"))
+    let entries = fs::read_dir(folder).expect("it is a folder");
+    entries
+        .flatten()
+        .any(|entry| entry.path().extension().is_some_and(|end| end == "new"))
 }
 
 /// Sends Ctrl-C to a program.
