@@ -112,7 +112,9 @@ outcome failed
 def with_line(line, text):
     """Returns the text of a report which fails because the end of its command is a disagreement, whose line this is."""
     before, rule, after = text.partition("------------\n")
-    return f"{before}{line}\n{rule}{after.replace('outcome success', 'outcome failed')}"
+    outcome = f"       ERROR {line}\noutcome failed"
+    after = after.replace("outcome success", "outcome failed").replace("outcome failed", outcome)
+    return f"{before}{line}\n{rule}{after}"
 
 
 # What the report of a run without tests has in each form, if `--no-tests` is `fail` and if it is `pass`.
@@ -240,19 +242,31 @@ def several_files():
         yield Row(f"github of files without events {paths}", ["--format", "github", *paths], "a print\n", 1, Parts(lines), others, files=files)
 
 
+# What is shown of a long line, and how many bytes its short reason has with a limit.
+CUT_TEXT = LONG_TEXT[:384] + " .. 79527 bytes .. " + LONG_TEXT[-96:]
+
+
 def limits():
     """Yields the rows of `--limit`."""
-    for limit, shown in [("0", 0), ("4096", 4_096), ("65536", 65_536), ("65537", 65_537), ("70000", 70_000)]:
-        text = LONG_TEXT[:shown]
-        parts = ["FAIL suite 1 pays\n", f"    {text}\n    ({80_007 - shown} more bytes)\n"]
-        wanted = Parts(parts, [text + "x"] if text else ["Error"])
+    # A reason of one line is shown whatever the limit is, without the middle of a long line.
+    for limit, shown in [("0", 0), ("100", 100), ("4096", 499), ("80007", 499), ("none", 499)]:
+        wanted = Parts([f"FAIL suite 1 pays\n    {CUT_TEXT}\n---", f"        FAIL suite 1 pays: {CUT_TEXT[:shown]}\noutcome"])
         for arguments in (["--limit", limit], [f"--limit={limit}"]):
             yield Row(f"{arguments}", arguments, LONG, 1, wanted)
-    yield Row("the limit is 4096 by default", [], LONG, 1, Parts(["    (75911 more bytes)\n"]))
-    for limit in ("80007", "18446744073709551615", "none"):
-        wanted = Parts([f"    {LONG_TEXT}\n"], ["more bytes"])
-        yield Row(f"the limit {limit}", ["--limit", limit], LONG, 1, wanted)
-        yield Row(f"the limit {limit} of an annotation", ["--limit", limit, "--format", "github"], LONG, 1, Parts([LONG_TEXT]))
+    rows = [f"row {number:03}" for number in range(1_000)]
+    text = started(1) + failed("pays", "\\n".join(["Error: no row fits", *rows])) + ended("failed", 0, 1)
+    # Half of the limit has a line of 18 bytes, lines of 7, and a line feed between two of them.
+    for limit, front, end in [("0", 0, 1), ("36", 0, 2), ("51", 0, 3), ("52", 1, 3), ("68", 2, 4), ("4096", 253, 256)]:
+        first = ["Error: no row fits", *rows[:front], f"({1000 - front - end} lines)", *rows[1000 - end :]]
+        wanted = Parts(["FAIL suite 1 pays\n" + "".join(f"    {line}\n" for line in first) + "---"])
+        yield Row(f"lines with --limit {limit}", ["--limit", limit], text, 1, wanted)
+        if limit == "4096":
+            yield Row("the limit is 4096 by default", [], text, 1, wanted)
+    for limit in ("8018", "18446744073709551615", "none"):
+        wanted = Parts(["".join(f"    {line}\n" for line in ["Error: no row fits", *rows])], [" lines)"])
+        yield Row(f"lines with --limit {limit}", ["--limit", limit], text, 1, wanted)
+        wanted = Parts(["%0A".join(["Error: no row fits", *rows])])
+        yield Row(f"the limit {limit} of an annotation", ["--limit", limit, "--format", "github"], text, 1, wanted)
     for limit in ("many", "18446744073709551616", "None", ""):
         message = f"test-report: --limit {limit}: neither a number of bytes nor `none`\n"
         yield Row(f"the limit {limit!r}", ["--limit", limit], LONG, 2, "", message)
@@ -292,8 +306,24 @@ def outputs():
     text = started(1) + failed("pays", "\\n".join(errors)) + ended("failed", 0, 1)
     first = "".join(f"    {line}\n" for line in errors[2:12]) + "    (3 more lines of output)\n"
     yield Row("lines from an error on", ["--output", "short"], text, 1, Parts(["FAIL suite 1 pays\n" + first]))
-    yield Row("a whole output has no limit", ["--output", "whole"], LONG, 1, Parts([f"    {LONG_TEXT}\n"], ["more bytes"]))
-    yield Row("but one in annotations", ["--output", "whole", "--format", "github"], LONG, 1, Parts(["%0A(75911 more bytes)\n"]))
+    # A line of a log has 100 bytes. Above an error of 15 bytes and a line feed, 4,096 bytes have 40 of them.
+    logs = ["x" * 96 + f"{number:04}" for number in range(50)]
+    text = started(1) + failed("pays", "\\n".join([*logs, "Error: no money"])) + ended("failed", 0, 1)
+    log = "".join(f"    {line}\n" for line in logs[10:])
+    before = f"FAIL suite 1 pays\n{log}    Error: no money\n    (10 more lines of output)\n---"
+    yield Row("lines before an explanation", [], text, 1, Parts([before]))
+    alone = "FAIL suite 1 pays\n    Error: no money\n    (50 more lines of output)\n---"
+    yield Row("an explanation alone", ["--output", "short"], text, 1, Parts([alone]))
+    yield Row("an explanation and no room", ["--limit", "115"], text, 1, Parts([alone]))
+    one = alone.replace("pays\n", f"pays\n    {logs[-1]}\n").replace("50 more", "49 more")
+    yield Row("an explanation and room for one line", ["--limit", "116"], text, 1, Parts([one]))
+    whole = ["--output", "whole"]
+    yield Row("a whole output has no limit, and whole lines", whole, LONG, 1, Parts([f"    {LONG_TEXT}\n", f": {LONG_TEXT}\n"]))
+    yield Row("but one in annotations", [*whole, "--format", "github"], LONG, 1, Parts([f"%0A{CUT_TEXT}\n"]))
+    for form, text in [("junit", f"<system-out>{LONG_TEXT}<"), ("json", f'"why":"{LONG_TEXT}","output":"{LONG_TEXT}"'),
+                       ("html", f"<code>{LONG_TEXT}<"), ("markdown", f"(63623 bytes before this)\n{LONG_TEXT[-16384:]}<")]:
+        cut = [] if form == "json" else [CUT_TEXT]
+        yield Row(f"a long line in {form}", ["--format", form], LONG, 1, Parts([*cut, text]))
     yield Row("an unknown output", ["--output", "long"], "", 2, "", Parts(["error: "]))
 
 
@@ -366,8 +396,11 @@ def levels():
         ("never", Parts([rule], ["PASS", "one"])),
     ]:
         yield Row(f"--success-output {when}", ["--success-output", when], text, 0, wanted)
-    limited = Parts([head + "    one\n    (4 more bytes)\n" + rule])
-    yield Row("--limit of an output of a test that passed", ["--success-output", "immediate", "--limit", "3"], text, 0, limited)
+    below = text.replace("one", "one\\r\\nmore")
+    limited = Parts([head + "    one\n    (1 lines)\n    two\n" + rule])
+    yield Row("--limit of an output of a test that passed", ["--success-output", "immediate", "--limit", "3"], below, 0, limited)
+    twice = Parts([head + "    one\n    two\n" + rule])
+    yield Row("--limit of two lines of such an output", ["--success-output", "immediate", "--limit", "3"], text, 0, twice)
     for option in ("--status-level", "--final-status-level", "--failure-output", "--success-output", "--slowest"):
         yield Row(f"an unknown value of {option}", [option, "late"], "", 2, "", Parts(["error: "]))
 
@@ -408,7 +441,7 @@ def annotations():
         if form != "text":
             arguments = ["--annotations", "github", "--format", form]
             yield Row(f"{arguments}", arguments, RED, 1, RED_PARTS[form], variables=on_github)
-    cut = Parts(["::error title=suite 1 pays::suite 1 pays%0A" + LONG_TEXT[:4_096] + "%0A(75911 more bytes)\n"])
+    cut = Parts(["::error title=suite 1 pays::suite 1 pays%0A" + CUT_TEXT + "\n"])
     whole = ["--annotations", "github", "--output", "whole"]
     yield Row("an annotation has a limit", whole, LONG, 1, cut)
     yield Row("an annotation of all", [*whole, "--limit", "none"], LONG, 1, Parts(["%0A" + LONG_TEXT + "\n"]))

@@ -137,14 +137,15 @@ fn slow_of(matches: &ArgMatches) -> Result<u64, Failure> {
     })
 }
 
-/// Returns the options of annotations: if `--limit` is absent, they have the default limit even if outputs are shown
-/// as a whole.
+/// Returns the options of annotations. If outputs are shown as a whole and `--limit` is absent, the annotations are those
+/// of the default, because an annotation is a short message next to a line of the sources.
 fn annotation_options(matches: &ArgMatches, options: Options) -> Options {
-    if matches.contains_id("limit") {
+    if options.output != OutputDisplay::Whole || matches.contains_id("limit") {
         options
     } else {
         Options {
             limit: LIMIT,
+            output: OutputDisplay::Auto,
             ..options
         }
     }

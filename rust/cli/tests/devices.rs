@@ -133,8 +133,8 @@ fn input_that_is_not_utf8() {
     let report = "no line of the input is of a test run\n\
     \x20   cargo test writes such lines with: RUSTC_BOOTSTRAP=1 cargo test -- -Z unstable-options --format json\n\
     \x20   test-report -- cargo test does this by itself\n------------\n     \
-        Summary 0 tests run: 0 passed (0 flaky), 0 failed (0 timed out, 0 crashed), 0 skipped, 0 not run\n\
-        outcome failed\n";
+        Summary 0 tests run: 0 passed (0 flaky), 0 failed (0 timed out, 0 crashed), 0 skipped, 0 not run\n       \
+        ERROR no line of the input is of a test run\noutcome failed\n";
     assert_output(&output, report.as_bytes(), lines, 1, "test-report");
 }
 

@@ -227,31 +227,39 @@ fn a_reason_in_a_summary_is_cut_and_the_end_of_its_output_follows() {
         2,
         &format!("first\n{}last\n", "<234567890\n".repeat(40_000)),
     );
-    for options in [["--output", "whole"], ["--limit", "none"]] {
+    // Half of 16,384 bytes has 745 lines, at the front and at the end. Without `--output whole` it is ten lines.
+    for (options, first, left_out, lasts) in [
+        (["--output", "whole"], "first\n", "\n(38512 lines)\n", 4),
+        (
+            ["--limit", "none"],
+            "<234567890\n",
+            "\nlast\n(39992 more lines of output)</pre>",
+            2,
+        ),
+    ] {
         let summary = report(
             &[&["--format", "markdown"][..], &options].concat(),
             &lines,
             1,
         );
         assert!(summary.len() < GITHUB, "{}", summary.len());
-        let headings =
-            summary.matches("<details><summary>FAIL suite 1 a</summary>\n\n<pre>\nfirst\n");
-        assert_eq!(headings.count(), 2, "{options:?}");
-        // The output has 440,010 bytes without its last line feed.
-        assert_eq!(summary.matches("\n(423626 more bytes)</pre>").count(), 2);
+        let first = first.replace('<', "&lt;");
+        let reason = format!("<details><summary>FAIL suite 1 a</summary>\n\n<pre>\n{first}");
+        assert_eq!(summary.matches(&reason).count(), 2, "{options:?}");
+        assert_eq!(summary.matches(left_out).count(), 2, "{options:?}");
         assert_eq!(
             summary
                 .matches("<summary>output, 40002 lines</summary>")
                 .count(),
             2
         );
-        assert_eq!(summary.matches("\nlast</pre>").count(), 2);
+        assert_eq!(summary.matches("\nlast</pre>").count(), lasts);
         let page = report(&[&["--format", "html"][..], &options].concat(), &lines, 1);
-        assert!(!page.contains("more bytes"), "{options:?}");
+        assert!(!page.contains(" lines)\n"), "{options:?}");
     }
     let at_most = run_with_output(1, &"1234567\n".repeat(2_048));
     let summary = report(&["--format", "markdown", "--output", "whole"], &at_most, 1);
-    assert!(!summary.contains("more bytes") && !summary.contains("<summary>output"));
+    assert!(!summary.contains(" lines)\n") && !summary.contains("<summary>output"));
 }
 
 /// Returns a text of control characters, as JSON has it.

@@ -41,7 +41,8 @@ FAIL suite 1 pays
 ------------
      Summary 2 tests run: 0 passed (0 flaky), 2 failed (0 timed out, 0 crashed), 0 skipped, 0 not run
         FAIL suite 1 adds: Error: no such currency
-{listed}outcome failed
+{listed}       ERROR suite 1 ended early
+outcome failed
 "
     )
 }

@@ -1,8 +1,8 @@
 //! Annotations of GitHub, and the names of failed tests.
 
 use crate::report::entry::Entry;
-use crate::report::escape::{front, line, text};
-use crate::report::failure::{ShownFailure, Why};
+use crate::report::escape::{line, text};
+use crate::report::failure::ShownFailure;
 use crate::report::options::Options;
 use crate::report::output::Text;
 use crate::report::problem::Problem;
@@ -39,7 +39,7 @@ impl Annotation {
         }
         let title = title(failure.test);
         let why = failure.why_by(options);
-        let message = format!("{title}\n{}", text(&limited(&why, options.limit)));
+        let message = format!("{title}\n{}", text(&why.text));
         properties.push((PropertyName::Title, title));
         Annotation {
             properties,
@@ -52,7 +52,7 @@ impl Annotation {
         let mut message = problem.line.clone();
         if let Some(why) = &problem.why {
             message.push('\n');
-            message.push_str(&text(why));
+            message.push_str(&text(&why.shown()));
         }
         Annotation {
             properties: Vec::new(),
@@ -82,25 +82,4 @@ pub(crate) fn push_failed_name(entry: &Entry<'_>, text: &mut Text) {
     if let Entry::Failed(failure) = entry {
         text.push(&format!("{}\n", line(&failure.test.name)));
     }
-}
-
-/// Returns at most the first `limit` bytes of why a test failed, the number of bytes that are left out, and the number
-/// of lines of the output that are not shown.
-pub(crate) fn limited(why: &Why, limit: usize) -> String {
-    let mut limited = limited_text(&why.text, limit);
-    if why.hidden > 0 {
-        limited.push_str(&format!("\n({} more lines of output)", why.hidden));
-    }
-    limited
-}
-
-/// Returns at most the first `limit` bytes of a text, and the number of bytes that are left out.
-pub(crate) fn limited_text(text: &str, limit: usize) -> String {
-    let first = front(text, limit);
-    let mut limited = first.to_string();
-    let more = text.len() - first.len();
-    if more > 0 {
-        limited.push_str(&format!("\n({more} more bytes)"));
-    }
-    limited
 }

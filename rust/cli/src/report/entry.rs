@@ -39,7 +39,7 @@ impl<'a> Entry<'a> {
             },
             Note::Flaky(test) => Entry::Flaky(test),
             Note::Disagreement(disagreement) => {
-                Entry::Problem(Problem::of_disagreement(disagreement))
+                Entry::Problem(Problem::of_disagreement(disagreement, options.output))
             }
             Note::NotRun(not_run) => Entry::Problem(Problem::of_not_run(not_run)),
             Note::Suite(suite) => Entry::Suite(suite),

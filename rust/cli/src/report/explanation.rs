@@ -1,6 +1,7 @@
 //! The explanation: the part of an output that says why a test failed.
 
-use crate::report::lines::{first_line, ten_written, written_count};
+use crate::report::limit::Limit;
+use crate::report::lines::{ten_written, written_count};
 use deodarsieve::counted::{HeadSpan, first_head, last_head};
 use deodarsieve::{ByteSubslice, TestOutputErrorSlice};
 use std::borrow::Cow;
@@ -23,23 +24,22 @@ pub(crate) struct Found<'a> {
 /// The part of an output that says why a test failed.
 #[derive(Clone, Copy)]
 pub(crate) struct Explanation<'a> {
-    /// All of it. If several threads panicked, it begins with the first head of a panic.
-    whole: &'a [u8],
+    output: &'a str,
 
-    /// What comes before the slice.
-    front: &'a [u8],
+    /// Where it begins: at the first head of a panic if several threads panicked, or else at the slice.
+    start: usize,
 
-    /// The slice that explains the failure.
-    slice: &'a [u8],
+    /// Where the slice that explains the failure begins.
+    slice: usize,
+
+    /// Where the explanation ends.
+    end: usize,
 }
 
-/// A part of an output that is shown.
-pub(crate) struct Excerpt {
-    /// The part. If lines in its midst are left out, a line `..` replaces them.
-    pub(crate) text: String,
-
-    /// How many lines of the output it has that are not blank.
-    pub(crate) lines: usize,
+/// What is shown of an output.
+pub(crate) struct Excerpt<'a> {
+    /// Its parts. If there are several, lines between them are left out.
+    parts: Vec<Cow<'a, str>>,
 }
 
 impl<'a> Found<'a> {
@@ -55,9 +55,9 @@ impl<'a> Found<'a> {
     }
 
     /// Returns the slice that explains the failure as text.
-    pub(crate) fn slice_text(&self) -> Option<Cow<'a, str>> {
-        let slice = self.slice?;
-        Some(String::from_utf8_lossy(subslice(slice).slice))
+    pub(crate) fn slice_text(&self) -> Option<&'a str> {
+        let part = subslice(self.slice?);
+        Some(&self.output[part.start..part.start + part.slice.len()])
     }
 
     /// Returns the explanation in the output. It is the slice that explains the failure. If that is a panic, the
@@ -72,11 +72,11 @@ impl<'a> Found<'a> {
             }
         };
         let start = head.map_or(part.start, |head| head.start.min(part.start));
-        let bytes = self.output.as_bytes();
         Some(Explanation {
-            whole: &bytes[start..part.start + part.slice.len()],
-            front: &bytes[start..part.start],
-            slice: part.slice,
+            output: self.output,
+            start,
+            slice: part.start,
+            end: part.start + part.slice.len(),
         })
     }
 }
@@ -98,43 +98,94 @@ fn subslice(slice: TestOutputErrorSlice<'_>) -> ByteSubslice<'_> {
 
 impl<'a> Explanation<'a> {
     /// Returns all of the explanation.
-    pub(crate) fn whole_text(&self) -> Cow<'a, str> {
-        String::from_utf8_lossy(self.whole)
+    pub(crate) fn text(self) -> &'a str {
+        &self.output[self.start..self.end]
     }
 
-    /// Returns what is shown of the explanation. This is all of it, unless something comes before the slice and it has
-    /// more bytes than the limit. Then it is the first two lines, a line `..` for others, and the slice.
-    pub(crate) fn excerpt(&self, limit: usize) -> Excerpt {
-        if self.front.is_empty() || self.whole.len() <= limit {
-            return Excerpt::of(self.whole_text().into_owned());
+    /// Returns the explanation or, if something comes before the slice and all of it is above the limit, its first two
+    /// lines and the slice.
+    pub(crate) fn excerpt(self, limit: Limit) -> Excerpt<'a> {
+        self.excerpt_after(0, limit)
+    }
+
+    /// Returns the excerpt with as many of the lines right before it as the limit holds. `above` is what is shown above
+    /// the excerpt.
+    pub(crate) fn excerpt_with_lines_before(
+        self,
+        above: &[Cow<'_, str>],
+        limit: Limit,
+    ) -> Excerpt<'a> {
+        let excerpt = self.excerpt(limit);
+        let text = excerpt.text();
+        let texts = above.iter().map(Cow::as_ref).chain([text.as_ref()]);
+        match limit.left_after(texts.flat_map(|text| text.split('\n'))) {
+            Some(room) => self.excerpt_after(self.size_before(room, limit), limit),
+            None => excerpt,
         }
-        let front = String::from_utf8_lossy(self.front);
-        let slice = String::from_utf8_lossy(self.slice);
-        let text = format!("{}\n..\n{slice}", two_lines(&front));
-        let lines = written_count(&text) - 1;
-        Excerpt { text, lines }
     }
-}
 
-/// Returns the first two lines of a text.
-fn two_lines(text: &str) -> String {
-    match first_line(text) {
-        (line, "") => line.to_string(),
-        (line, rest) => format!("{line}\n{}", first_line(rest).0),
+    /// Returns how many bytes right before the explanation are lines that fit into `room` bytes. The first of these lines
+    /// is not blank.
+    fn size_before(self, room: usize, limit: Limit) -> usize {
+        let Some(before) = self.output[..self.start].strip_suffix('\n') else {
+            return 0;
+        };
+        let size = limit.fitting(before.rsplit('\n'), room);
+        let lines = self.output[self.start - size..self.start].split_inclusive('\n');
+        let blank = lines.take_while(|line| line.trim().is_empty());
+        size - blank.map(str::len).sum::<usize>()
     }
-}
 
-impl Excerpt {
-    /// Returns the excerpt that has nothing but these lines of an output.
-    pub(crate) fn of(text: String) -> Excerpt {
+    /// Returns the excerpt that begins this number of bytes before the explanation.
+    fn excerpt_after(self, before: usize, limit: Limit) -> Excerpt<'a> {
+        let Explanation {
+            output,
+            start,
+            slice,
+            end,
+        } = self;
+        let first = start - before;
+        if start == slice || limit.holds(self.text()) {
+            return Excerpt::of(&output[first..end]);
+        }
+        let front = start + two_lines(&output[start..slice]).len();
         Excerpt {
-            lines: written_count(&text),
-            text,
+            parts: vec![output[first..front].into(), output[slice..end].into()],
+        }
+    }
+}
+
+/// Returns the first two lines of a text, without the last line feed.
+fn two_lines(text: &str) -> &str {
+    match text.match_indices('\n').nth(1) {
+        Some((end, _)) => &text[..end],
+        None => text.strip_suffix('\n').unwrap_or(text),
+    }
+}
+
+impl<'a> Excerpt<'a> {
+    /// Returns the excerpt that is one part of an output.
+    pub(crate) fn of(part: impl Into<Cow<'a, str>>) -> Excerpt<'a> {
+        Excerpt {
+            parts: vec![part.into()],
         }
     }
 
     /// Returns ten lines of an output, or `None` if all lines are blank.
-    pub(crate) fn of_ten_lines(output: &str) -> Option<Excerpt> {
+    pub(crate) fn of_ten_lines(output: &str) -> Option<Excerpt<'a>> {
         ten_written(output).map(Excerpt::of)
+    }
+
+    /// Returns how many lines of the output it has that are not blank.
+    pub(crate) fn written_count(&self) -> usize {
+        self.parts.iter().map(|part| written_count(part)).sum()
+    }
+
+    /// Returns the parts, with a line `..` between two of them.
+    pub(crate) fn text(&self) -> Cow<'a, str> {
+        match self.parts.as_slice() {
+            [part] => part.clone(),
+            parts => parts.join("\n..\n").into(),
+        }
     }
 }

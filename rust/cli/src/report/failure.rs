@@ -1,6 +1,7 @@
 //! Failed tests, and what is shown of why they failed.
 
 use crate::report::explanation::{Excerpt, Explanation, Found};
+use crate::report::limit::Limit;
 use crate::report::lines::{without_returns, written_count};
 use crate::report::options::{Options, OutputDisplay};
 use crate::report::place::Place;
@@ -18,11 +19,11 @@ pub(crate) struct ShownFailure<'a> {
     /// How it failed.
     pub(crate) failure: &'a Failure,
 
-    /// The short reason: one line.
-    pub(crate) short: String,
-
     /// The place in the sources, if it is known.
     pub(crate) place: Option<Place<'a>>,
+
+    /// The short reason: one line, whole.
+    reason: String,
 
     /// The part of the output that says why it failed, if there is one.
     explanation: Option<Explanation<'a>>,
@@ -33,13 +34,36 @@ pub(crate) struct ShownFailure<'a> {
     options: Options,
 }
 
-/// Why a test failed, before the limit.
+/// Why a test failed, as it is shown.
 pub(crate) struct Why {
-    /// All that is shown, in one or more lines.
+    /// One or more lines. The last one has the number of lines of the output that are left out, if there are some that are
+    /// not blank.
     pub(crate) text: String,
 
-    /// How many lines of the output are neither shown nor blank.
-    pub(crate) hidden: usize,
+    /// True if not all of the output and of its lines is shown.
+    pub(crate) is_partial: bool,
+}
+
+/// The short reason of a failure and why the test failed, with all lines whole.
+pub(crate) struct WholeLines {
+    pub(crate) short: String,
+    pub(crate) why: String,
+}
+
+impl Why {
+    /// Returns these parts, one below the other, as far as the limit holds them. `hidden` is the number of lines of the
+    /// output that are in none of them.
+    fn of(parts: &[Cow<'_, str>], hidden: usize, limit: Limit) -> Why {
+        let whole = without_returns(&parts.join("\n"));
+        let (mut text, is_partial) = match limit.shown(&whole) {
+            Cow::Borrowed(_) => (whole, hidden > 0),
+            Cow::Owned(shown) => (shown, true),
+        };
+        if hidden > 0 {
+            text.push_str(&format!("\n({hidden} more lines of output)"));
+        }
+        Why { text, is_partial }
+    }
 }
 
 impl<'a> ShownFailure<'a> {
@@ -49,12 +73,17 @@ impl<'a> ShownFailure<'a> {
         ShownFailure {
             test,
             failure,
-            short: short_reason(failure, test.time, &found),
             place: Place::of(test, failure, &found),
+            reason: short_reason(test, failure, &found),
             explanation: found.explanation(),
             why: OnceCell::new(),
             options,
         }
+    }
+
+    /// Returns the short reason: one line.
+    pub(crate) fn short(&self) -> String {
+        Limit::of(self.options).short(&self.reason)
     }
 
     /// Returns why the test failed, as the options of the report say that it is shown.
@@ -64,100 +93,132 @@ impl<'a> ShownFailure<'a> {
 
     /// Returns why the test failed, as other options say that it is shown.
     pub(crate) fn why_by(&self, options: Options) -> Why {
-        let excerpt = self.excerpt(options);
-        let (part, lines) = match excerpt {
-            Some(Excerpt { text, lines }) => (Some(text), lines),
-            None => (None, 0),
-        };
-        let hidden = if is_crash(self.failure) {
-            0
-        } else {
-            written_count(output_of(self.failure)).saturating_sub(lines)
-        };
-        Why {
-            text: self.joined_parts(part),
-            hidden,
-        }
+        self.why_with(options.output, Limit::of(options))
+    }
+
+    /// Returns why the test failed where there is room for about this number of bytes, or `None` if `why` has no more.
+    pub(crate) fn why_within(&self, bytes: usize) -> Option<Why> {
+        let is_longer = self.why().text.len() > bytes;
+        is_longer.then(|| self.why_with(self.options.output, Limit::within(bytes)))
+    }
+
+    /// Returns the same lines as `short` and `why`, with all lines whole, or `None` if they are whole there.
+    pub(crate) fn whole_lines(&self) -> Option<WholeLines> {
+        let limit = Limit::of(self.options).with_whole_lines();
+        let (short, shown) = (limit.short(&self.reason), self.why());
+        let why = shown
+            .is_partial
+            .then(|| self.why_with(self.options.output, limit).text)
+            .filter(|why| *why != shown.text);
+        let is_same = why.is_none() && short == self.short();
+        (!is_same).then(|| WholeLines {
+            short,
+            why: why.unwrap_or_else(|| shown.text.clone()),
+        })
     }
 
     /// Returns why the test failed if a text shows the test before it, too. If several tests of a suite crashed, only
     /// the first has the explanation.
     pub(crate) fn why_below(&self) -> Option<Why> {
-        match &self.failure.kind {
-            FailureKind::Crashed(crash) if crash.above && self.explanation.is_some() => Some(Why {
-                text: self.joined_parts(Some("as above".to_string())),
-                hidden: 0,
-            }),
-            FailureKind::Crashed(_)
-            | FailureKind::Failed
-            | FailureKind::TimedOut
-            | FailureKind::WithoutEnd
-            | FailureKind::Flaky => None,
-        }
+        let has_above = crash_of(self.failure).is_some_and(|crash| crash.above);
+        (has_above && self.explanation.is_some()).then(|| {
+            let mut parts = self.reasons();
+            parts.push("as above".into());
+            Why::of(&parts, 0, Limit::of(self.options))
+        })
     }
 
-    /// Returns what is shown of the output: all of it, or the explanation in it, or ten lines if there is neither an
-    /// explanation nor a message. Of the prints before a crash only the explanation is shown.
-    fn excerpt(&self, options: Options) -> Option<Excerpt> {
-        let explained = || Some(self.explanation?.excerpt(options.limit));
-        if is_crash(self.failure) {
-            return explained();
+    /// Returns why the test failed: the reasons, and below them the part of the output that is shown.
+    fn why_with(&self, output: OutputDisplay, limit: Limit) -> Why {
+        let mut parts = self.reasons();
+        let excerpt = self.excerpt(output, &parts, limit);
+        let shown = excerpt.as_ref().map_or(0, Excerpt::written_count);
+        let hidden = match crash_of(self.failure) {
+            Some(_) => 0,
+            None => written_count(output_of(self.failure)).saturating_sub(shown),
+        };
+        match excerpt {
+            Some(excerpt) => parts.push(excerpt.text()),
+            None => parts.extend(self.last_parts(!parts.is_empty())),
         }
-        let output = output_of(self.failure);
-        let whole = output.trim_end();
-        let is_whole = match options.output {
-            OutputDisplay::Auto => whole.len() <= options.limit,
+        Why::of(&parts, hidden, limit)
+    }
+
+    /// Returns what is shown of the output: all of it, or the explanation in it with lines before it, or ten lines if
+    /// there is neither an explanation nor a message. Of the prints before a crash only an explanation is shown. `above`
+    /// is what is shown above the output.
+    fn excerpt(
+        &self,
+        output: OutputDisplay,
+        above: &[Cow<'_, str>],
+        limit: Limit,
+    ) -> Option<Excerpt<'a>> {
+        let all = output_of(self.failure);
+        let is_crash = crash_of(self.failure).is_some();
+        let whole = all.trim_end();
+        let is_whole = match output {
+            OutputDisplay::Auto => limit.holds(whole),
             OutputDisplay::Short => false,
             OutputDisplay::Whole => true,
         };
-        if is_whole {
-            return (!whole.is_empty()).then(|| Excerpt::of(whole.to_string()));
+        if is_whole && !is_crash {
+            return (!whole.is_empty()).then(|| Excerpt::of(whole));
         }
-        match explained() {
-            None if self.failure.message.is_none() => Excerpt::of_ten_lines(output),
-            explained => explained,
+        match (self.explanation, output) {
+            (Some(explanation), OutputDisplay::Short) => Some(explanation.excerpt(limit)),
+            (Some(explanation), OutputDisplay::Auto | OutputDisplay::Whole) => {
+                Some(explanation.excerpt_with_lines_before(above, limit))
+            }
+            (None, _) if is_crash || self.failure.message.is_some() => None,
+            (None, _) => Excerpt::of_ten_lines(all),
         }
     }
 
-    /// Returns the parts of why the test failed, one below the other. `part` is what is shown of its output.
-    fn joined_parts(&self, part: Option<String>) -> String {
-        let parts = match &self.failure.kind {
-            FailureKind::Crashed(crash) => crash_parts(crash, part),
-            FailureKind::Failed
-            | FailureKind::TimedOut
-            | FailureKind::WithoutEnd
-            | FailureKind::Flaky => failure_parts(self.failure, self.test.time, part),
+    /// Returns the reasons that lines of the run give for the failure. For a crash these are a sentence, and the cause
+    /// that cargo names.
+    fn reasons(&self) -> Vec<Cow<'a, str>> {
+        let failure = self.failure;
+        let reasons = match crash_of(failure) {
+            Some(crash) => [
+                Some(crash_words(crash).into()),
+                crash.cause.as_deref().map(Cow::from),
+            ],
+            None => [
+                reason_of(failure, self.test.time),
+                failure.message.as_deref().map(Cow::from),
+            ],
         };
-        without_returns(&parts.join("\n"))
+        reasons.into_iter().flatten().collect()
+    }
+
+    /// Returns what is shown if nothing is shown of the output: the last prints before a crash, or that there is no
+    /// output if there are no reasons either.
+    fn last_parts(&self, has_reasons: bool) -> Vec<Cow<'a, str>> {
+        match crash_of(self.failure) {
+            Some(crash) => crash.last.iter().map(Cow::from).collect(),
+            None if has_reasons => Vec::new(),
+            None => vec!["no output was captured".into()],
+        }
     }
 }
 
 /// Returns the text that explains a failure: the prints before a crash, or else the output of the test.
 fn output_of(failure: &Failure) -> &str {
+    match crash_of(failure) {
+        Some(crash) => &crash.prints,
+        None => failure.stdout.as_deref().unwrap_or(""),
+    }
+}
+
+/// Returns how a test crashed, or `None` if it failed in another way.
+pub(crate) fn crash_of(failure: &Failure) -> Option<&Crash> {
     match &failure.kind {
-        FailureKind::Crashed(crash) => &crash.prints,
+        FailureKind::Crashed(crash) => Some(crash),
         FailureKind::Failed
         | FailureKind::TimedOut
         | FailureKind::WithoutEnd
-        | FailureKind::Flaky => failure.stdout.as_deref().unwrap_or(""),
+        | FailureKind::Flaky => None,
     }
-}
-
-/// Returns true if a test crashed.
-pub(crate) fn is_crash(failure: &Failure) -> bool {
-    matches!(failure.kind, FailureKind::Crashed(_))
-}
-
-/// Returns the parts of why a test crashed: a sentence, the cause that cargo names, and what the prints say: their
-/// explanation, or else the last of them.
-fn crash_parts(crash: &Crash, explanation: Option<String>) -> Vec<Cow<'_, str>> {
-    let mut parts = vec![Cow::from(crash_words(crash))];
-    parts.extend(crash.cause.as_deref().map(Cow::from));
-    match explanation {
-        Some(explanation) => parts.push(explanation.into()),
-        None => parts.extend(crash.last.iter().map(Cow::from)),
-    }
-    parts
 }
 
 /// Returns the sentence for a crash. What ended before the test did is the run if the suite has a key, or else the
@@ -171,18 +232,6 @@ pub(crate) fn crash_words(crash: &Crash) -> String {
     match crash.running {
         0 | 1 => format!("{ended} ended before it did"),
         running => format!("one of {running} tests that ran when {ended} ended"),
-    }
-}
-
-/// Returns the reason of a failure, the message, and the part of the output that is shown, as far as they are known.
-fn failure_parts(failure: &Failure, time: Option<u64>, part: Option<String>) -> Vec<Cow<'_, str>> {
-    let message = failure.message.as_deref().map(Cow::from);
-    let parts = [reason_of(failure, time), message, part.map(Cow::from)];
-    let parts: Vec<_> = parts.into_iter().flatten().collect();
-    if parts.is_empty() {
-        vec![Cow::from("no output was captured")]
-    } else {
-        parts
     }
 }
 

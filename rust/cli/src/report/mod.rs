@@ -24,6 +24,7 @@ mod failure;
 pub mod fault;
 mod junit;
 mod levels;
+mod limit;
 mod lines;
 mod model;
 mod numbers;
@@ -152,6 +153,7 @@ impl Report {
             all_tests: files.junit || files.json || matches!(format, Format::Junit | Format::Json),
             page: files.html || format == Format::Html,
             summary: files.markdown || format == Format::Markdown,
+            json: files.json || format == Format::Json,
         };
         let has_model = wanted.all_tests || wanted.page || wanted.summary;
         Report {
@@ -161,7 +163,7 @@ impl Report {
             files,
             text: Text::new(options.raw && has_text),
             form: has_text.then(|| TextForm::new(options)),
-            model: has_model.then(|| ModelBuilder::new(options, wanted)),
+            model: has_model.then(|| ModelBuilder::new(wanted)),
         }
     }
 

@@ -1,13 +1,11 @@
 //! The model of a finished report, which documents and JSON show. Its texts are not escaped, except those of outputs in
 //! documents and of problems.
 
-use crate::report::annotations::limited;
 use crate::report::entry::Entry;
-use crate::report::escape::{front, text, whole_text};
-use crate::report::failure::ShownFailure;
+use crate::report::escape::{text, whole_text};
+use crate::report::failure::{ShownFailure, WholeLines};
 use crate::report::numbers::Numbers;
-use crate::report::options::Options;
-use crate::report::problem::{NO_TESTS, Problem};
+use crate::report::problem::{NO_TESTS, Problem, ProblemReason};
 use crate::report::slowest::Slowest;
 use crate::report::whole_output::{
     MOST_BYTES_OF_TEXT, OutputRoom, PAGE_ROOM, SUMMARY_ROOM, WholeOutput,
@@ -116,6 +114,9 @@ pub(crate) struct FailedModel {
     pub(crate) short: String,
     pub(crate) why: String,
 
+    /// The same with all lines whole, if JSON is wanted and they are not whole.
+    whole_lines: Option<WholeLines>,
+
     /// The reason in a summary, if that is shorter than `why`.
     pub(crate) summary_why: Option<String>,
 
@@ -153,7 +154,7 @@ pub(crate) struct ProblemModel {
     /// The line of the report. It is escaped.
     pub(crate) line: String,
     #[serde(skip_serializing_if = "Option::is_none")]
-    pub(crate) why: Option<String>,
+    why: Option<ProblemReason>,
 }
 
 /// A test that passed after several attempts.
@@ -197,8 +198,12 @@ impl Serialize for TestModel {
             TestKind::Skipped(reason) => serialize_some(&mut members, "reason", reason)?,
             TestKind::Failed(failed) => {
                 serialize_some(&mut members, "place", &failed.place)?;
-                members.serialize_entry("short", &failed.short)?;
-                members.serialize_entry("why", &failed.why)?;
+                let (short, why) = match &failed.whole_lines {
+                    Some(WholeLines { short, why }) => (short, why),
+                    None => (&failed.short, &failed.why),
+                };
+                members.serialize_entry("short", short)?;
+                members.serialize_entry("why", why)?;
                 serialize_some(&mut members, "output", &failed.output)?;
             }
         }
@@ -269,11 +274,11 @@ pub(crate) struct Wanted {
     pub(crate) all_tests: bool,
     pub(crate) page: bool,
     pub(crate) summary: bool,
+    pub(crate) json: bool,
 }
 
 /// The model of a report, until its run is over.
 pub(crate) struct ModelBuilder {
-    options: Options,
     wanted: Wanted,
     page_room: OutputRoom,
     summary_room: OutputRoom,
@@ -293,10 +298,9 @@ pub(crate) struct ModelBuilder {
 }
 
 impl ModelBuilder {
-    /// Returns the model of a run without entries. Of the options it uses only `limit` and `output`.
-    pub(crate) fn new(options: Options, wanted: Wanted) -> ModelBuilder {
+    /// Returns the model of a run without entries.
+    pub(crate) fn new(wanted: Wanted) -> ModelBuilder {
         ModelBuilder {
-            options,
             wanted,
             page_room: PAGE_ROOM,
             summary_room: SUMMARY_ROOM,
@@ -356,15 +360,17 @@ impl ModelBuilder {
 
     /// Keeps a failed test.
     fn on_failed(&mut self, failure: &ShownFailure<'_>) {
-        let (test, limit) = (failure.test, self.options.limit);
+        let test = failure.test;
         self.slowest.add(test.time, || title(test));
-        let why = failure.why();
+        let (short, why) = (failure.short(), failure.why());
         let stdout = failure.failure.stdout.as_deref();
-        let leaves_out = |limit| why.hidden > 0 || front(&why.text, limit) != why.text;
-        let page = stdout.filter(|_| self.wanted.page && leaves_out(limit));
-        let summary_limit = limit.min(MOST_BYTES_OF_TEXT);
-        let summary = stdout.filter(|_| self.wanted.summary && leaves_out(summary_limit));
-        let is_shorter = self.wanted.summary && summary_limit < why.text.len().min(limit);
+        let shorter = Some(failure)
+            .filter(|_| self.wanted.summary)
+            .and_then(|failure| failure.why_within(MOST_BYTES_OF_TEXT));
+        let page = stdout.filter(|_| self.wanted.page && why.is_partial);
+        let summary =
+            stdout.filter(|_| self.wanted.summary && (why.is_partial || shorter.is_some()));
+        let json = Some(failure).filter(|_| self.wanted.json);
         let failed = FailedModel {
             order: self.failed,
             result: FailedResult::of(&failure.failure.kind),
@@ -377,9 +383,10 @@ impl ModelBuilder {
                     column: place.column.map(str::to_string),
                 }),
             output: stdout.filter(|_| self.wanted.all_tests).map(str::to_string),
-            short: front(&failure.short, limit).to_string(),
-            why: limited(why, limit),
-            summary_why: is_shorter.then(|| limited(why, summary_limit)),
+            whole_lines: json.and_then(ShownFailure::whole_lines),
+            short,
+            why: why.text.clone(),
+            summary_why: shorter.map(|why| why.text),
             page_output: page.and_then(|output| self.page_room.take(output)),
             summary_output: summary.and_then(|output| self.summary_room.take(output)),
         };
@@ -477,6 +484,12 @@ impl ProblemModel {
 
     /// Returns what explains the problem, if anything does. It is escaped.
     pub(crate) fn shown_why(&self) -> Option<String> {
-        self.why.as_deref().map(text)
+        self.why.as_ref().map(|why| text(&why.shown()))
+    }
+
+    /// Returns the same in a summary, which has less room. It is escaped.
+    pub(crate) fn why_in_summary(&self) -> Option<String> {
+        let why = self.why.as_ref()?;
+        Some(text(&why.shown_within(MOST_BYTES_OF_TEXT)))
     }
 }

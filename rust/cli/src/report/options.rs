@@ -5,13 +5,14 @@ use deodarsieve::{FinalStatusLevel, StatusLevel, TestOutputDisplay};
 /// How much of a failed test's output is shown.
 #[derive(Clone, Copy, Debug, PartialEq, Eq)]
 pub enum OutputDisplay {
-    /// All of the output if it has at most as many bytes as the limit, or else as `Short`.
+    /// All of the output if it has at most as many bytes as the limit, or else as `Short`, with as many of the lines
+    /// before an explanation as the limit holds.
     Auto,
 
     /// The explanation in the output or, if there is none and no message, ten lines of it.
     Short,
 
-    /// All of the output.
+    /// All of the output, with long lines whole.
     Whole,
 }
 
@@ -19,7 +20,8 @@ pub enum OutputDisplay {
 #[derive(Clone, Copy, Debug, PartialEq, Eq)]
 pub struct Options {
     /// The greatest number of bytes that are shown of why a test failed, and of its short reason. They are counted
-    /// in UTF-8, before escapes. With `usize::MAX` all are shown.
+    /// in UTF-8, before escapes. A long reason has at least its first and its last line. With `usize::MAX` there is no
+    /// limit.
     pub limit: usize,
 
     /// How much of a failed test's output is shown.

@@ -1,7 +1,7 @@
 //! The place of a failure in the sources.
 
 use crate::report::explanation::Found;
-use crate::report::failure::is_crash;
+use crate::report::failure::crash_of;
 use crate::report::lines::{first_line, without_return};
 use crate::report::short::other_thread;
 use crate::report::words::shown_name;
@@ -30,20 +30,34 @@ impl<'a> Place<'a> {
         found: &Found<'a>,
     ) -> Option<Place<'a>> {
         let ours = |place: &Place| is_ours(place.file);
-        documented(shown_name(test))
-            .filter(ours)
+        Place::documented(test)
             .or_else(|| of_panic(failure, found).filter(ours))
             .or_else(|| of_message(failure.message.as_deref()?).filter(ours))
+    }
+
+    /// Returns the place in the name of a documentation test, or `None` for another test.
+    pub(crate) fn documented(test: &'a TestNote) -> Option<Place<'a>> {
+        documented(shown_name(test)).filter(|place| is_ours(place.file))
+    }
+
+    /// Returns true if this is the place of a panic of a documentation test, given the end of the head. So it is unless
+    /// the head names another file of the repository: rustdoc compiles a documentation test in a temporary file, and
+    /// counts its lines from the start of the test.
+    pub(crate) fn is_for(self, head: &str) -> bool {
+        head.strip_suffix(':')
+            .and_then(parsed)
+            .is_some_and(|place| place.file == self.file || !is_ours(place.file))
     }
 }
 
 /// Returns true if a path is of a file of the repository, as far as its text says: it is not absolute, and no
-/// component is `..`.
+/// component is `..` or the name of a folder in which rustdoc has its temporary files.
 fn is_ours(path: &str) -> bool {
     let is_slash = |c| c == '/' || c == '\\';
     let has_drive =
         path.starts_with(|c: char| c.is_ascii_alphabetic()) && path[1..].starts_with(':');
-    !path.starts_with(is_slash) && !has_drive && path.split(is_slash).all(|part| part != "..")
+    let is_outside = |part: &str| part == ".." || part.starts_with("rustdoctest");
+    !path.starts_with(is_slash) && !has_drive && !path.split(is_slash).any(is_outside)
 }
 
 /// Returns the place in the name of a documentation test: `FILE - ITEM (line N)` or `FILE - (line N)`. Returns
@@ -63,10 +77,9 @@ fn documented(name: &str) -> Option<Place<'_>> {
 /// Returns the place that the head of a panic names. This is the first panic if the test crashed or if it is of another
 /// thread, or else the last panic.
 fn of_panic<'a>(failure: &Failure, found: &Found<'a>) -> Option<Place<'a>> {
-    let head = if is_crash(failure) {
-        found.first?
-    } else {
-        other_thread(found).or(found.last)?
+    let head = match crash_of(failure) {
+        Some(_) => found.first?,
+        None => other_thread(found).or(found.last)?,
     };
     let (line, _) = first_line(&found.output[head.stop..]);
     parsed(line.strip_suffix(':')?)

@@ -2,35 +2,70 @@
 
 use crate::report::escape::{line, name};
 use crate::report::explanation::Found;
+use crate::report::limit::{Limit, LongLines};
 use crate::report::lines::ten_written;
+use crate::report::options::OutputDisplay;
 use deodarsieve_run::{CargoReport, CommandEnd, Disagreement, NotRun, SaidNumbers, TestResult};
+use serde::Serialize;
 use std::borrow::Cow;
 use std::rc::Rc;
 
 /// The line of the problem that no test ran.
 pub(crate) const NO_TESTS: &str = "no test ran";
 
+/// The kind of a contradiction.
+pub(crate) const CONTRADICTION: &str = "disagreement";
+
 /// A contradiction, or a suite whose tests were not all run.
 pub(crate) struct Problem<'a> {
     /// The name of the suite, or `None` if the problem names no suite.
     pub(crate) suite: Option<&'a Rc<String>>,
 
-    /// The kind: `disagreement` or `not run`.
+    /// The kind: a contradiction, or `not run`.
     pub(crate) kind: &'static str,
 
     /// The line of the report. It is escaped.
     pub(crate) line: String,
 
-    /// What explains the problem, if anything does. It is not escaped.
-    pub(crate) why: Option<String>,
+    /// What explains the problem, if anything does.
+    pub(crate) why: Option<ProblemReason>,
 
     /// True if no line of a file is an event of a harness, or none before cargo said that tests failed.
     pub(crate) lacks_events: bool,
 }
 
+/// What explains a problem. As JSON it is a text.
+#[derive(Clone, Serialize)]
+#[serde(transparent)]
+pub(crate) struct ProblemReason {
+    text: String,
+    #[serde(skip)]
+    long_lines: LongLines,
+}
+
+impl ProblemReason {
+    /// Returns what the forms except JSON show. It is not escaped.
+    pub(crate) fn shown(&self) -> Cow<'_, str> {
+        self.long_lines.lines(&self.text)
+    }
+
+    /// Returns what is shown where there is room for about this number of bytes. It is not escaped.
+    pub(crate) fn shown_within(&self, bytes: usize) -> Cow<'_, str> {
+        let shown = self.shown();
+        if shown.len() <= bytes {
+            shown
+        } else {
+            Limit::within(bytes).shown(&self.text)
+        }
+    }
+}
+
 impl<'a> Problem<'a> {
-    /// Returns the problem that a contradiction is.
-    pub(crate) fn of_disagreement(disagreement: &'a Disagreement) -> Problem<'a> {
+    /// Returns the problem that a contradiction is. `output` says how much is shown of what explains it.
+    pub(crate) fn of_disagreement(
+        disagreement: &'a Disagreement,
+        output: OutputDisplay,
+    ) -> Problem<'a> {
         let (suite, why, lacks_events) = match disagreement {
             Disagreement::EndedEarly { suite } | Disagreement::LastLine { suite, .. } => {
                 (Some(suite), None, false)
@@ -45,9 +80,12 @@ impl<'a> Problem<'a> {
         };
         Problem {
             suite,
-            kind: "disagreement",
+            kind: CONTRADICTION,
             line: disagreement_line(disagreement),
-            why,
+            why: why.map(|text| ProblemReason {
+                text,
+                long_lines: LongLines::of(output),
+            }),
             lacks_events,
         }
     }
@@ -71,7 +109,7 @@ impl<'a> Problem<'a> {
 fn cargo_why(report: &CargoReport) -> Option<String> {
     let found = Found::of(&report.prints);
     match found.explanation() {
-        Some(explanation) => Some(explanation.whole_text().into_owned()),
+        Some(explanation) => Some(explanation.text().to_string()),
         None => ten_written(&report.prints).or_else(|| report.cause.clone()),
     }
 }

@@ -3,18 +3,19 @@
 use crate::report::explanation::Found;
 use crate::report::failure::{crash_words, reason_of};
 use crate::report::lines::{first_line, last_written, ten_written};
+use crate::report::place::Place;
 use deodarsieve::TestOutputErrorSlice;
 use deodarsieve::counted::{HeadSpan, last_head};
-use deodarsieve_run::{Crash, Failure, FailureKind};
+use deodarsieve_run::{Crash, Failure, FailureKind, TestNote};
 use std::borrow::Cow;
 
-/// Returns the short reason of a failure. `time` is the time that the test took, in microseconds, and `found` is what
-/// is found in its output.
-pub(crate) fn short_reason(failure: &Failure, time: Option<u64>, found: &Found<'_>) -> String {
+/// Returns the short reason of a failure. `found` is what is found in its output.
+pub(crate) fn short_reason(test: &TestNote, failure: &Failure, found: &Found<'_>) -> String {
+    let documented = Place::documented(test);
     match &failure.kind {
-        FailureKind::Crashed(crash) => return crash_reason(crash, found),
+        FailureKind::Crashed(crash) => return crash_reason(crash, found, documented),
         FailureKind::Failed if failure.reason.is_none() && failure.message.is_none() => {
-            if let Some(reason) = better_reason(found) {
+            if let Some(reason) = better_reason(found, documented) {
                 return reason;
             }
         }
@@ -23,35 +24,64 @@ pub(crate) fn short_reason(failure: &Failure, time: Option<u64>, found: &Found<'
         | FailureKind::WithoutEnd
         | FailureKind::Flaky => {}
     }
-    let first = reason_of(failure, time)
+    let first = reason_of(failure, test.time)
         .or_else(|| failure.message.as_deref().map(Cow::from))
-        .or_else(|| found.slice_text())
+        .or_else(|| found.slice_text().map(Cow::from))
         .or_else(|| ten_written(found.output).map(Cow::from))
         .unwrap_or(Cow::from("no output was captured"));
-    short_of(&first)
+    short_of(&first, documented)
 }
 
-/// Returns the short reason of a crash: its sentence and, if the prints before it have the head of a panic, what the
-/// first one says.
-fn crash_reason(crash: &Crash, found: &Found<'_>) -> String {
-    let words = crash_words(crash);
-    match found.first {
-        Some(head) => format!("{words}: {}", said_by(found.output, head)),
-        None => words,
+/// Returns the short reason of a crash: its sentence, how the process ended if that is known, and, if the prints before
+/// it have the head of a panic, what the first one says.
+fn crash_reason(crash: &Crash, found: &Found<'_>, documented: Option<Place<'_>>) -> String {
+    let mut reason = crash_words(crash);
+    if let Some(end) = crash.cause.as_deref().and_then(end_in) {
+        reason.push_str(&format!(" ({end})"));
     }
+    if let Some(head) = found.first {
+        reason.push_str(": ");
+        reason.push_str(&said_by(found.output, head, documented));
+    }
+    reason
 }
 
-/// Returns the first line of why a test failed. If this line is the head of a panic, it is what follows from
-/// `panicked at` on, and the next line too if the head ends in a colon.
-fn short_of(why: &str) -> String {
-    let (line, rest) = first_line(why);
+/// Returns how a process ended, by the brackets at the end of the cause that cargo names: `signal: 6, SIGABRT` for
+/// `(signal: 6, SIGABRT: process abort signal)`, and `status 7` for `(exit status: 7)`. Returns `None` if they say
+/// something else, or were cut off.
+fn end_in(cause: &str) -> Option<String> {
+    let (_, end) = cause.trim_end().strip_suffix(')')?.rsplit_once('(')?;
+    if let Some(status) = end.strip_prefix("exit status: ") {
+        return Some(format!("status {status}"));
+    }
+    let signal = end.strip_prefix("signal: ")?;
+    let (signal, _) = signal.split_once(": ").unwrap_or((signal, ""));
+    Some(format!("signal: {signal}"))
+}
+
+/// Returns the first line of why a test failed. If this line is the head of a panic, it is what the panic says.
+fn short_of(why: &str, documented: Option<Place<'_>>) -> String {
+    let (line, _) = first_line(why);
     match last_head(line.as_bytes()) {
-        Some(head) if head.start == 0 => with_next(
-            &line[head.stop - "panicked at ".len()..],
-            first_line(rest).0,
-        ),
+        Some(head) if head.start == 0 => said_at(&why[head.stop..], documented),
         _ => line.to_string(),
     }
+}
+
+/// Returns what the head of a panic says.
+fn said_by(output: &str, head: HeadSpan, documented: Option<Place<'_>>) -> String {
+    said_at(output[head.stop..].trim_end(), documented)
+}
+
+/// Returns what a panic says: `panicked at`, its place, and the next line too if the line of the place ends in a colon.
+/// `place` is the text from the place on. The place of a documentation test is the one in the sources.
+fn said_at(place: &str, documented: Option<Place<'_>>) -> String {
+    let (line, rest) = first_line(place);
+    let line = match documented {
+        Some(place) if place.is_for(line) => format!("{}:{}:", place.file, place.line).into(),
+        _ => Cow::from(line),
+    };
+    with_next(&format!("panicked at {line}"), first_line(rest).0)
 }
 
 /// Returns words. If they end in a colon, and the next line is not empty, that line follows after a space.
@@ -65,7 +95,7 @@ fn with_next(words: &str, next: &str) -> String {
 
 /// Returns what says more than the slice that explains a failure, if that is a panic: an error that the test returned
 /// after it, or the panic of another thread before it.
-fn better_reason(found: &Found<'_>) -> Option<String> {
+fn better_reason(found: &Found<'_>, documented: Option<Place<'_>>) -> Option<String> {
     match found.slice? {
         TestOutputErrorSlice::PanicMessage { .. } => {}
         TestOutputErrorSlice::ErrorStr { .. } | TestOutputErrorSlice::ShouldPanic { .. } => {
@@ -76,7 +106,7 @@ fn better_reason(found: &Found<'_>) -> Option<String> {
     if last.starts_with("Error: ") {
         return Some(last.to_string());
     }
-    other_thread(found).map(|head| said_by(found.output, head))
+    other_thread(found).map(|head| said_by(found.output, head, documented))
 }
 
 /// Returns the head of the first panic, if it is of another thread than the last panic.
@@ -89,11 +119,4 @@ pub(crate) fn other_thread(found: &Found<'_>) -> Option<HeadSpan> {
 /// Returns the name of the thread in a head.
 fn thread_name(output: &str, head: HeadSpan) -> &str {
     output[head.start..].split('\'').nth(1).unwrap_or("")
-}
-
-/// Returns what the head of a panic says: what follows from `panicked at` on, and the next line too if the head ends
-/// in a colon.
-fn said_by(output: &str, head: HeadSpan) -> String {
-    let (line, rest) = first_line(output[head.stop..].trim_end());
-    with_next(&format!("panicked at {line}"), first_line(rest).0)
 }

@@ -1,13 +1,13 @@
 //! The text for people, with a list of tests at its end.
 
 use crate::report::entry::Entry;
-use crate::report::escape::front;
-use crate::report::failure::{ShownFailure, Why};
+use crate::report::failure::ShownFailure;
 use crate::report::levels::{final_level, finished_output, has_line, skipped_output};
+use crate::report::limit::Limit;
 use crate::report::lines::without_returns;
 use crate::report::options::Options;
 use crate::report::output::Text;
-use crate::report::problem::Problem;
+use crate::report::problem::{CONTRADICTION, Problem};
 use crate::report::slowest::Slowest;
 use crate::report::words::{failed_status, outcome_text, push_time_and_title, summary};
 use crate::report_text::Style;
@@ -41,7 +41,8 @@ pub(crate) struct TextForm {
     list: List,
 }
 
-/// The list at the end: the tests that are stored for it, in the order of their levels, and the slowest.
+/// The list at the end: the tests that are stored for it, in the order of their levels, and the slowest. Contradictions
+/// are among the failed tests.
 struct List {
     passed: Text,
     skipped: Text,
@@ -109,7 +110,7 @@ impl TextForm {
             Entry::Passed(test) => self.on_passed(test, text),
             Entry::Flaky(test) => push_passed(test, self.options, text),
             Entry::Skipped(test) => self.on_skipped(test, text),
-            Entry::Problem(problem) => push_problem(problem, text),
+            Entry::Problem(problem) => self.on_problem(problem, text),
             Entry::Suite(_) => {}
         }
     }
@@ -142,7 +143,7 @@ impl TextForm {
             push_line(status, test, 0, &attempts, options, text);
         }
         if shows.show_immediate {
-            push_why(failure, MARGIN, options, text);
+            push_why(failure, MARGIN, text);
         }
         self.list.keep_time(test, options);
         let OutputStoreFinal::Yes { display_output } = shows.store_final else {
@@ -150,10 +151,10 @@ impl TextForm {
         };
         if let Some(part) = self.list.part(final_level(finish, test), 0, options.raw) {
             push_line(status, test, STATUS_WIDTH, ": ", options, part);
-            part.push_input(front(&failure.short, options.limit));
+            part.push_input(&failure.short());
             part.push("\n");
             if display_output {
-                push_why(failure, LIST_MARGIN, options, part);
+                push_why(failure, LIST_MARGIN, part);
             }
         }
     }
@@ -200,6 +201,19 @@ impl TextForm {
             );
         }
     }
+
+    /// Takes a problem. The list has contradictions if it has failed tests, and among them.
+    fn on_problem(&mut self, problem: &Problem<'_>, text: &mut Text) {
+        push_problem(problem, text);
+        let options = self.options;
+        if problem.kind == CONTRADICTION && options.final_status_level >= FinalStatusLevel::Fail {
+            let part = &mut self.list.failed;
+            let mut line = begun_line("ERROR", STATUS_WIDTH, options, part);
+            line.push_str(&problem.line);
+            line.push('\n');
+            part.push(&line);
+        }
+    }
 }
 
 /// Appends the line of a test that passed and its output, if the levels show them.
@@ -227,6 +241,15 @@ fn push_line(
     options: Options,
     text: &mut Text,
 ) {
+    let mut line = begun_line(status, width, options, text);
+    push_time_and_title(&mut line, test);
+    line.push_str(end);
+    text.push(&line);
+}
+
+/// Returns the beginning of a line: the status, which ends in the column `width`, and a space. Appends the status first
+/// if it has a colour.
+fn begun_line(status: &str, width: usize, options: Options, text: &mut Text) -> String {
     let mut line = String::with_capacity(LINE);
     line.extend(repeat_n(' ', width.saturating_sub(status.len())));
     if options.color {
@@ -237,36 +260,21 @@ fn push_line(
         line.push_str(status);
     }
     line.push(' ');
-    push_time_and_title(&mut line, test);
-    line.push_str(end);
-    text.push(&line);
+    line
 }
 
 /// Appends why a test failed. If several tests of a suite crashed, only the first has the explanation.
-fn push_why(failure: &ShownFailure<'_>, margin: usize, options: Options, text: &mut Text) {
+fn push_why(failure: &ShownFailure<'_>, margin: usize, text: &mut Text) {
     let below = failure.why_below();
-    let why: &Why = below.as_ref().unwrap_or_else(|| failure.why());
-    push_limited(&why.text, options.limit, margin, text);
-    if why.hidden > 0 {
-        let (hidden, spaces) = (why.hidden, " ".repeat(margin));
-        text.push(&format!("{spaces}({hidden} more lines of output)\n"));
-    }
+    let why = below.as_ref().unwrap_or_else(|| failure.why());
+    text.push_indented(&why.text, margin);
 }
 
 /// Appends the output of a test that passed, or nothing if there is none.
 fn push_output(test: &TestNote, margin: usize, options: Options, text: &mut Text) {
     if let Some(output) = passed_output(test) {
-        push_limited(&without_returns(output), options.passed_limit, margin, text);
-    }
-}
-
-/// Appends at most the first `limit` bytes of a text of a test, and the number of bytes that are not shown.
-fn push_limited(input: &str, limit: usize, margin: usize, text: &mut Text) {
-    let first = front(input, limit);
-    text.push_indented(first, margin);
-    let more = input.len() - first.len();
-    if more > 0 {
-        text.push(&format!("{}({more} more bytes)\n", " ".repeat(margin)));
+        let shown = without_returns(output);
+        text.push_indented(&Limit::of_passed(options).shown(&shown), margin);
     }
 }
 
@@ -275,7 +283,7 @@ fn push_limited(input: &str, limit: usize, margin: usize, text: &mut Text) {
 fn push_problem(problem: &Problem<'_>, text: &mut Text) {
     text.push(&format!("{}\n", problem.line));
     if let Some(why) = &problem.why {
-        text.push_indented(why, MARGIN);
+        text.push_indented(&why.shown(), MARGIN);
     }
     if problem.lacks_events {
         text.push(ADVICE);
@@ -290,10 +298,10 @@ fn passed_status(test: &TestNote) -> String {
     }
 }
 
-/// Returns the style of the word for a result.
+/// Returns the style of the word for a result or a contradiction.
 fn style_of(status: &str) -> Style {
     match status {
-        "FAIL" | "TIMEOUT" | "CRASH" => Style::BoldRed,
+        "FAIL" | "TIMEOUT" | "CRASH" | "ERROR" => Style::BoldRed,
         "PASS" => Style::BoldGreen,
         _ => Style::BoldYellow,
     }

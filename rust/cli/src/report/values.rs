@@ -22,7 +22,6 @@
 //! `short`, or the `name` of a failed test or of its suite has an `@`, there is an item without values beside it:
 //! `line_code`, `short_code` or `name_code`.
 
-use crate::report::annotations::limited_text;
 use crate::report::escape::{name, shortened, text};
 use crate::report::model::{
     CaseModel, FailedModel, FailedResult, FlakyModel, ProblemModel, ReportModel, Seconds,
@@ -256,11 +255,7 @@ fn problem_values(problem: &ProblemModel) -> Values {
 /// Returns the values of a problem in a summary, where its line and what explains it are cut.
 fn problem_in_summary(problem: &ProblemModel) -> Values {
     let line = shortened(&problem.line, MOST_BYTES_OF_TEXT);
-    let why = problem.why.as_deref();
-    values_of_problem(
-        &line,
-        why.map(|why| text(&limited_text(why, MOST_BYTES_OF_TEXT))),
-    )
+    values_of_problem(&line, problem.why_in_summary())
 }
 
 /// Returns the values of the last problem of a summary that leaves out this number of others.

@@ -269,11 +269,9 @@ fn heading(test: &TestNote, failure: &Failure) -> String {
 /// Returns the whole output of a failed test and the number of its lines, if the reason leaves a part of it out.
 fn left_out(failure: &Failure, shown: &ShownFailure) -> Option<(usize, String)> {
     let output = failure.stdout.as_ref()?;
-    let is_cut = ["more bytes)", "more lines of output)"]
-        .iter()
-        .any(|end| shown.why.ends_with(end));
     let output = without_returns(output.trim_end());
-    (is_cut && !output.is_empty()).then(|| (output.split('\n').count(), value(&output)))
+    let is_shown = shown.is_partial && !output.is_empty();
+    is_shown.then(|| (output.split('\n').count(), value(&output)))
 }
 
 /// Returns the numbers of tests in words, each with the number.

@@ -184,6 +184,12 @@ impl Generator {
             output.push_str(self.random.one_of(&EXPLANATIONS));
             output.push_str(&self.text(4));
         }
+        if self.random.one_in(8) {
+            let bytes = self.random.one_of(&[512, 513, 600, 3_000]);
+            let line = format!("{}é", self.text(2)).repeat(bytes);
+            let end = line.floor_char_boundary(bytes);
+            output = format!("{}{output}", &line[..end]);
+        }
         if self.random.one_in(12) {
             let line = self.text(3);
             output =

@@ -1,4 +1,5 @@
-//! The form `json`: read back, it has the facts of the run.
+//! The form `json`: read back, it has the facts of the run, with all lines whole. The other forms show the same without the
+//! middles of long lines.
 
 use crate::facts::{
     Facts, MARKS, Suite, failure_of, outcome, own_name, problem_line, suite_of_problem,
@@ -9,11 +10,39 @@ use deodarsieve_cli::report::options::{Options, OutputDisplay};
 use deodarsieve_run::{Failure, FailureKind, Note, TestNote, TestOutcome};
 use serde_json::{Value, json};
 
-/// What the forms show of a failed test. Its texts are not escaped.
+/// What the forms except JSON show of a failed test. Its texts are not escaped.
 pub struct ShownFailure {
     pub short: String,
     pub why: String,
+
+    /// True if `why` leaves out some lines or parts of lines.
+    pub is_partial: bool,
     pub place: Option<Place>,
+}
+
+/// Returns a text of the run as the forms except JSON show it: of a line with more than 512 bytes the first 384, the number
+/// of those that are left out, and the last 96. With `--output whole` it is the text itself.
+pub fn with_cut_lines(text: &str, output: OutputDisplay) -> String {
+    let cut = |line: &str| {
+        let is_place = |place: &usize| line.is_char_boundary(*place);
+        let front = (0..=384).rev().find(is_place).unwrap_or(0);
+        let end = (line.len() - 96..=line.len()).find(is_place).unwrap_or(0);
+        format!(
+            "{} .. {} bytes .. {}",
+            &line[..front],
+            end - front,
+            &line[end..]
+        )
+    };
+    let lines = text.split('\n').map(|line| {
+        let is_whole = line.len() <= 512 || output == OutputDisplay::Whole;
+        if is_whole {
+            line.to_string()
+        } else {
+            cut(line)
+        }
+    });
+    lines.collect::<Vec<_>>().join("\n")
 }
 
 /// A place in the sources.
@@ -157,9 +186,15 @@ fn take_failure(test: &mut Value) -> ShownFailure {
         line: take_text(&mut place, "line").expect("a place has a line"),
         column: take_text(&mut place, "column"),
     });
+    let why = take_text(test, "why").expect("a failed test has a reason");
+    let is_number = |line: &str| {
+        let ends = [" lines)", " more lines of output)"];
+        line.starts_with('(') && ends.iter().any(|end| line.ends_with(end))
+    };
     ShownFailure {
         short: take_text(test, "short").expect("a failed test has a short reason"),
-        why: take_text(test, "why").expect("a failed test has a reason"),
+        is_partial: why.split('\n').any(is_number),
+        why,
         place,
     }
 }
@@ -169,7 +204,7 @@ fn list<'a>(object: &'a mut Value, name: &str) -> &'a mut Vec<Value> {
     object[name].as_array_mut().expect("it is a list")
 }
 
-/// Asserts that the JSON of a run has its facts, and returns what else is shown.
+/// Asserts that the JSON of a run has its facts, and returns what else the other forms show.
 pub fn check(facts: &Facts, json: &str, options: Options) -> Shown {
     assert_eq!(json.find('\n'), Some(json.len() - 1), "it is one line");
     assert!(!MARKS.iter().any(|mark| json.contains(mark)), "{json}");
@@ -204,10 +239,19 @@ pub fn check(facts: &Facts, json: &str, options: Options) -> Shown {
                     .position(|(found, _)| std::ptr::eq(*found, test));
                 let (_, shown) = found.swap_remove(place.expect("the failed test is in JSON"));
                 check_failure(test, failure, &shown, options);
-                shown
+                let why = with_cut_lines(&shown.why, options.output);
+                ShownFailure {
+                    short: with_cut_lines(&shown.short, options.output),
+                    is_partial: shown.is_partial || why != shown.why,
+                    why,
+                    place: shown.place,
+                }
             })
             .collect(),
-        problems: problems[no_tests..].to_vec(),
+        problems: problems[no_tests..]
+            .iter()
+            .map(|why| Some(with_cut_lines(why.as_deref()?, options.output)))
+            .collect(),
     }
 }
 
@@ -219,19 +263,13 @@ fn check_failure(test: &TestNote, failure: &Failure, shown: &ShownFailure, optio
     if let Some(place) = &shown.place {
         check_place(test, failure, place);
     }
+    assert_size(&shown.why, options);
     let stdout = failure.stdout.as_deref().unwrap_or("").trim_end();
     let reason = reason_of(test, failure);
     if let FailureKind::Crashed(_) = failure.kind {
-        assert!(
-            shown.why.starts_with(first(&reason, limit)),
-            "{}",
-            shown.why
-        );
-        assert!(
-            shown.short.starts_with(first(&reason, limit)),
-            "{}",
-            shown.short
-        );
+        assert_eq!(shown.why.split('\n').next(), Some(reason.as_str()));
+        let is_short = shown.short.starts_with(first(&reason, limit));
+        assert!(is_short, "{}", shown.short);
         return;
     }
     let is_whole = match output {
@@ -243,14 +281,32 @@ fn check_failure(test: &TestNote, failure: &Failure, shown: &ShownFailure, optio
     let parts: Vec<_> = parts.into_iter().filter(|part| !part.is_empty()).collect();
     let wanted = without_returns(&parts.join("\n"));
     if stdout.is_empty() && parts.is_empty() {
-        assert_eq!(shown.why, first("no output was captured", limit));
+        assert_eq!(shown.why, "no output was captured");
     } else if is_whole {
-        assert_eq!(shown.why, limited(&wanted, limit), "{:?}", test.name);
+        assert_eq!(shown.why, limited(&wanted, options), "{:?}", test.name);
     } else {
         // The line feed after a carriage return at its end may come with the next part.
-        let wanted = wanted.trim_end_matches('\r');
-        assert!(shown.why.starts_with(first(wanted, limit)), "{}", shown.why);
+        let wanted = wanted
+            .split('\n')
+            .next()
+            .unwrap_or("")
+            .trim_end_matches('\r');
+        assert!(shown.why.starts_with(wanted), "{}", shown.why);
     }
+}
+
+/// Asserts that why a test failed is within the limit, except its first and its last line and the lines with numbers of
+/// lines.
+fn assert_size(why: &str, options: Options) {
+    let shown = with_cut_lines(why, options.output);
+    let (why, _) = shown.rsplit_once("\n(").unwrap_or((&shown, ""));
+    let lines: Vec<&str> = why.split('\n').collect();
+    let ends = lines[0].len() + lines[lines.len() - 1].len();
+    let numbers = 40;
+    assert!(
+        why.len() <= options.limit.saturating_add(ends + numbers),
+        "{why}"
+    );
 }
 
 /// Returns the first bytes of a text, cut at a character.
@@ -262,13 +318,31 @@ fn first(text: &str, limit: usize) -> &str {
     &text[..end]
 }
 
-/// Returns the first bytes of a text and, if there are others, their number.
-pub fn limited(text: &str, limit: usize) -> String {
-    let shown = first(text, limit);
-    match text.len() - shown.len() {
-        0 => text.to_string(),
-        more => format!("{shown}\n({more} more bytes)"),
+/// Returns a text or, if it is above the limit, as many of its first lines as half of the limit holds, the number of those
+/// that are left out, and as many of its last lines. The lines count as the forms except JSON show them.
+pub fn limited(text: &str, options: Options) -> String {
+    let Options { limit, output, .. } = options;
+    let shown = with_cut_lines(text, output);
+    if shown.len() <= limit {
+        return text.to_string();
     }
+    let (lines, shown): (Vec<&str>, Vec<&str>) =
+        (text.split('\n').collect(), shown.split('\n').collect());
+    let count = lines.len();
+    let fits = |lines: &[&str]| lines.join("\n").len() <= limit / 2;
+    let front = (1..=count)
+        .rev()
+        .find(|front| fits(&shown[..*front]))
+        .unwrap_or(1);
+    let end = (1..=count)
+        .rev()
+        .find(|end| fits(&shown[count - end..]))
+        .unwrap_or(1);
+    if front + end >= count {
+        return text.to_string();
+    }
+    let (front, middle, end) = (&lines[..front], count - front - end, &lines[count - end..]);
+    format!("{}\n({middle} lines)\n{}", front.join("\n"), end.join("\n"))
 }
 
 /// Returns what a failed test shows above its output: the reason and the message.

@@ -39,7 +39,7 @@ fn check(run: &[Vec<u8>], options: Options) {
     let ran = facts.end.stats.finished_count > 0;
     assert_eq!(succeeds, is_sound && ran);
     let shown = json::check(&facts, &written.json, options);
-    text::check(&facts, &shown, &written, options.limit);
+    text::check(&facts, &shown, &written, options);
     documents::check_junit(&facts, &shown, &written.junit);
     documents::check_page(&facts, &shown, &written.html);
     documents::check_summary(&facts, &shown, &written.markdown);

@@ -4,9 +4,10 @@ use crate::facts::{
     Facts, MARKS, bracket, escaped, failure_of, outcome, problem_line, status_of, summary, title,
     turns_writing, without_returns,
 };
-use crate::json::{Place, Shown, ShownFailure, limited, reason_of};
+use crate::json::{Place, Shown, ShownFailure, limited, reason_of, with_cut_lines};
 use crate::written::{SLOWEST, Written};
 use deodarsieve::TestOutputErrorSlice;
+use deodarsieve_cli::report::options::Options;
 use deodarsieve_run::{Crash, Disagreement, Failure, FailureKind, Note, TestNote, TestOutcome};
 use std::cmp::Reverse;
 
@@ -30,8 +31,8 @@ struct Kind {
     /// True if texts of tests are as they were.
     is_raw: bool,
 
-    /// The most bytes of why a test failed.
-    limit: usize,
+    /// How much is shown of why a test failed.
+    options: Options,
 }
 
 impl Kind {
@@ -64,7 +65,8 @@ impl Kind {
                     Some("as above"),
                 ];
                 let parts: Vec<_> = parts.into_iter().flatten().collect();
-                self.indented(&limited(&without_returns(&parts.join("\n")), self.limit))
+                let why = limited(&without_returns(&parts.join("\n")), self.options);
+                self.indented(&with_cut_lines(&why, self.options.output))
             }
             _ => self.indented(&shown.why),
         }
@@ -196,9 +198,20 @@ fn list(facts: &Facts, shown: &Shown, kind: Kind) -> String {
     for test in flaky {
         text += &listed(&passed_word(test), test, "");
     }
-    for ((test, failure), shown) in facts.failures().zip(&shown.failures) {
-        let short = kind.input(&shown.short);
-        text += &listed(status_of(failure), test, &format!(": {short}"));
+    let mut failures = shown.failures.iter();
+    for note in &facts.notes {
+        match note {
+            Note::Test(test) if failure_of(test).is_some() => {
+                let shown = failures.next().expect("each failed test is shown");
+                let status = failure_of(test).map_or("", status_of);
+                text += &listed(status, test, &format!(": {}", kind.input(&shown.short)));
+            }
+            Note::Disagreement(_) => {
+                let line = problem_line(note).expect("it is a problem");
+                text += &format!("       ERROR {line}\n");
+            }
+            Note::Test(_) | Note::Flaky(_) | Note::NotRun(_) | Note::Suite(_) => {}
+        }
     }
     if kind.has_all {
         text += &slowest(facts);
@@ -325,7 +338,7 @@ fn assert_safe(text: &str) {
 }
 
 /// Asserts that the forms have the facts of the run and what is shown of them, and nothing else.
-pub fn check(facts: &Facts, shown: &Shown, written: &Written, limit: usize) {
+pub fn check(facts: &Facts, shown: &Shown, written: &Written, options: Options) {
     for text in [
         &written.text,
         &written.all,
@@ -338,7 +351,7 @@ pub fn check(facts: &Facts, shown: &Shown, written: &Written, limit: usize) {
     let kind = Kind {
         has_all: false,
         is_raw: false,
-        limit,
+        options,
     };
     assert_eq!(written.text, text(facts, shown, kind));
     let raw = Kind {
@@ -376,12 +389,12 @@ fn check_colours(facts: &Facts, all: &str) {
     for (_, word) in words {
         let (style, word) = word.split_once('m').expect("a colour ends with m");
         let wanted = match word {
-            "FAIL" | "TIMEOUT" | "CRASH" => "[1;31",
+            "FAIL" | "TIMEOUT" | "CRASH" | "ERROR" => "[1;31",
             "PASS" => "[1;32",
             _ => "[1;33",
         };
         let is_word = [
-            "FAIL", "TIMEOUT", "CRASH", "PASS", "SKIP", "SLOW", "SLOWEST",
+            "FAIL", "TIMEOUT", "CRASH", "ERROR", "PASS", "SKIP", "SLOW", "SLOWEST",
         ]
         .contains(&word);
         assert!(is_word || word.starts_with("FLAKY "), "{word}");
@@ -398,6 +411,13 @@ fn check_colours(facts: &Facts, all: &str) {
         .filter(|test| matches!(test.outcome, TestOutcome::Passed { .. }));
     let late = passed.filter(|test| test.attempts > 1).count();
     let slowest = slowest_tests(facts).len().min(SLOWEST);
-    // Each test has its word when it ends and in the list. A flaky one passes before it counts.
-    assert_eq!(count, 2 * facts.tests().count() - late + flaky + slowest);
+    let disagreements = facts
+        .notes
+        .iter()
+        .filter(|note| matches!(note, Note::Disagreement(_)))
+        .count();
+    // Each test has its word when it ends and in the list. A flaky one passes before it counts. A contradiction has one in
+    // the list alone.
+    let tests = 2 * facts.tests().count() - late;
+    assert_eq!(count, tests + flaky + disagreements + slowest);
 }

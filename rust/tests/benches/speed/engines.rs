@@ -129,21 +129,38 @@ fn reported_passed(size: usize) -> Work {
     reported(lines("ok", count, |_| String::new()), expected)
 }
 
+/// Returns the lines under a failed test whose output has a log before this explanation: what is left of the limit has the
+/// last lines of the log.
+fn lines_below(log: &str, explanation: &str) -> String {
+    let lines: Vec<&str> = log.lines().collect();
+    let mut room = OPTIONS.limit - explanation.len();
+    let fits = |line: &&&str| {
+        let left = room.checked_sub(line.len() + 1);
+        room = left.unwrap_or(0);
+        left.is_some()
+    };
+    let hidden = lines.len() - lines.iter().rev().take_while(fits).count();
+    let shown = lines[hidden..].iter().copied().chain(explanation.lines());
+    let shown: String = shown.map(|line| format!("    {line}\n")).collect();
+    format!("{shown}    ({hidden} more lines of output)\n")
+}
+
 /// Returns the report of a run whose tests write a log and panic.
 fn reported_failed(size: usize) -> Work {
     let count = share(size, 2_000);
-    let log = String::from_utf8_lossy(LOG)
-        .replace('\n', "\\n")
-        .repeat(BLOCKS);
+    let log = String::from_utf8_lossy(LOG).repeat(BLOCKS);
+    let in_json = log.replace('\n', "\\n");
     let head = |number| format!("thread '{}' panicked at src/pool.rs:41:9:", name(number));
-    let more = |number| format!(", \"stdout\": \"{log}{}\\nno room left\\n\"", head(number));
-    let hidden = String::from_utf8_lossy(LOG).lines().count() * BLOCKS;
-    let failure = |number| {
+    let more = |number| {
         format!(
-            "FAIL suite 1 {}\n    {}\n    no room left\n    ({hidden} more lines of output)\n",
-            name(number),
+            ", \"stdout\": \"{in_json}{}\\nno room left\\n\"",
             head(number)
         )
+    };
+    let failure = |number| {
+        let explanation = format!("{}\nno room left", head(number));
+        let below = lines_below(&log, &explanation);
+        format!("FAIL suite 1 {}\n{below}", name(number))
     };
     let listed = |number| {
         format!(

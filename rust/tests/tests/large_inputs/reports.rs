@@ -3,7 +3,6 @@
 
 use deodarsieve_cli::report::{Files, Format};
 use deodarsieve_tests::reports::{OPTIONS, new_report, write_report};
-use std::fmt::Write;
 
 /// The greatest number of bytes that are shown of the explanation of a failure.
 const LIMIT: usize = OPTIONS.limit;
@@ -80,31 +79,53 @@ fn a_run_of_three_megabytes() {
     assert_eq!(reported(&input), wanted);
 }
 
-/// Returns the report of a test that failed with this reason, which is shown up to [`LIMIT`], and with this number of other
-/// lines of output.
-fn report_of_one(reason: &str, hidden: usize) -> String {
-    let mut text = String::from("FAIL suite 1 a\n");
-    for line in reason[..reason.len().min(LIMIT)].lines() {
-        writeln!(text, "    {line}").expect("a string takes all text");
-    }
-    if reason.len() > LIMIT {
-        let more = reason.len() - LIMIT;
-        writeln!(text, "    ({more} more bytes)").expect("a string takes all text");
-    }
-    if hidden > 0 {
-        writeln!(text, "    ({hidden} more lines of output)").expect("a string takes all text");
-    }
+/// A line of the output of a test.
+const LINE: &str = "read 4096 bytes of a frame\n";
+
+/// Returns the report of a test that failed, with these lines of why it failed.
+fn report_of_one(why: &str) -> String {
+    let lines: String = why.lines().map(|line| format!("    {line}\n")).collect();
     let list = "        FAIL suite 1 a: panicked at b:1:2: why\n";
-    format!("{text}{}{list}outcome failed\n", summary(0, 1))
+    format!(
+        "FAIL suite 1 a\n{lines}{}{list}outcome failed\n",
+        summary(0, 1)
+    )
 }
 
 #[test]
 fn a_test_with_a_megabyte_of_output() {
-    let line = "read 4096 bytes of a frame\n";
     let message = "thread 'a' panicked at b:1:2:\nwhy\n";
-    for (before, after) in [(0, 40_000), (20_000, 20_000), (40_000, 0)] {
-        let reason = format!("{message}{}", line.repeat(after));
-        let stdout = format!("{}{reason}", line.repeat(before));
+    let half = LIMIT / 2;
+    // The front has whole lines. So has the end, and no line feed follows it.
+    let front = format!(
+        "{message}{}",
+        LINE.repeat((half + 1 - message.len()) / LINE.len())
+    );
+    let end = LINE.repeat((half + 1) / LINE.len());
+    let with_end = |after: usize| {
+        let shown = (front.len() - message.len() + end.len()) / LINE.len();
+        format!("{front}({} lines)\n{end}", after - shown)
+    };
+    // What is left of the limit has lines before the message.
+    let left = (LIMIT + 1 - message.len()) / LINE.len();
+    for (before, after, wanted) in [
+        (0, 40_000, with_end(40_000)),
+        (
+            20_000,
+            20_000,
+            with_end(20_000) + "(20000 more lines of output)\n",
+        ),
+        (
+            40_000,
+            0,
+            format!(
+                "{}{message}({} more lines of output)\n",
+                LINE.repeat(left),
+                40_000 - left
+            ),
+        ),
+    ] {
+        let stdout = format!("{}{message}{}", LINE.repeat(before), LINE.repeat(after));
         assert!(stdout.len() > 1_000_000);
         let input = [
             suite_of(1, ""),
@@ -112,10 +133,9 @@ fn a_test_with_a_megabyte_of_output() {
             failed("a", &stdout),
             suite_end("failed", ""),
         ];
-        let wanted = report_of_one(reason.trim_end(), before);
         assert_eq!(
             reported(&input.concat()),
-            wanted,
+            report_of_one(&wanted),
             "{before} lines before the panic"
         );
     }

@@ -19,7 +19,9 @@ fn ends_without_a_start() {
             notes: "a suite ended that had not started: failed\n\
                 FAIL a\n    no output was captured\n1 tests started outside of a suite\n",
             summary: "2 tests run: 1 passed (0 flaky), 1 failed (0 timed out, 0 crashed), 0 skipped, 0 not run",
-            list: "        FAIL a: no output was captured\n",
+            list: "       ERROR a suite ended that had not started: failed\n        \
+                FAIL a: no output was captured\n       \
+                ERROR 1 tests started outside of a suite\n",
             outcome: "failed",
         },
         Case {
@@ -32,7 +34,7 @@ fn ends_without_a_start() {
 "#,
             notes: "FAIL a\n    no output was captured\n1 tests started outside of a suite\n",
             summary: "1 tests run: 0 passed (0 flaky), 1 failed (0 timed out, 0 crashed), 0 skipped, 0 not run",
-            list: "        FAIL a: no output was captured\n",
+            list: "        FAIL a: no output was captured\n       ERROR 1 tests started outside of a suite\n",
             outcome: "failed",
         },
         Case {
@@ -51,7 +53,10 @@ fn ends_without_a_start() {
                 suite 1: its last line says ok, but 0 of its tests passed and 1 failed\n\
                 suite 1: 1 of 2 tests were not run\n",
             summary: "1 tests run: 0 passed (0 flaky), 1 failed (0 timed out, 0 crashed), 1 skipped, 1 not run",
-            list: "        FAIL suite 1 b: no output was captured\n",
+            list: "        FAIL suite 1 b: no output was captured\n       \
+                ERROR b ended failed, and had not started\n       \
+                ERROR d ended ok, and had not started\n       \
+                ERROR suite 1: its last line says ok, but 0 of its tests passed and 1 failed\n",
             outcome: "failed",
         },
     ]);
@@ -80,7 +85,9 @@ fn suites() {
             summary: "5 tests run: 2 passed (0 flaky), 3 failed (0 timed out, 2 crashed), 0 skipped, 0 not run",
             list: "       CRASH suite 1 b: one of 2 tests that ran when its process ended\n       \
                 CRASH suite 1 a: one of 2 tests that ran when its process ended\n        \
-                FAIL suite 2 b: no output was captured\n",
+                FAIL suite 2 b: no output was captured\n       \
+                ERROR b ended failed, and had not started\n       \
+                ERROR suite 2: its last line says ok, but 1 of its tests passed and 1 failed\n",
             outcome: "failed",
         },
         Case {
@@ -129,7 +136,9 @@ fn last_lines() {
             notes: "FAIL suite 1 a\n    no output was captured\n\
                 suite 1: its last line counts 1 passed and 0 failed (ok), but 0 of its tests passed and 1 failed\n",
             summary: "1 tests run: 0 passed (0 flaky), 1 failed (0 timed out, 0 crashed), 0 skipped, 0 not run",
-            list: "        FAIL suite 1 a: no output was captured\n",
+            list: "        FAIL suite 1 a: no output was captured\n       \
+                ERROR suite 1: its last line counts 1 passed and 0 failed (ok), \
+                but 0 of its tests passed and 1 failed\n",
             outcome: "failed",
         },
         Case {
@@ -165,7 +174,8 @@ fn several_files() {
         a (unittests src/lib.rs): 1 of 2 tests were not run\n\
         cargo: error: test failed, to rerun pass `--lib`\n------------\n     \
         Summary 2 tests run: 1 passed (0 flaky), 1 failed (0 timed out, 1 crashed), 0 skipped, 1 not run\n       \
-        CRASH a (unittests src/lib.rs) x: its process ended before it did\noutcome failed\n";
+        CRASH a (unittests src/lib.rs) x: its process ended before it did\n       \
+        ERROR cargo: error: test failed, to rerun pass `--lib`\noutcome failed\n";
     let (text, _) = reported(OPTIONS, Format::Text, &[first, second]);
     assert_eq!(text, wanted);
     assert_eq!(reported(OPTIONS, Format::Names, &[first, second]).0, "x\n");

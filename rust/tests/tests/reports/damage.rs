@@ -8,39 +8,53 @@ use deodarsieve_tests::reports::{OPTIONS, new_report, write_report};
 const NOTHING: &str = "no line of the input is of a test run\n\
     \x20   cargo test writes such lines with: RUSTC_BOOTSTRAP=1 cargo test -- -Z unstable-options --format json\n\
     \x20   test-report -- cargo test does this by itself\n------------\n     \
-     Summary 0 tests run: 0 passed (0 flaky), 0 failed (0 timed out, 0 crashed), 0 skipped, 0 not run\n\
-     outcome failed\n";
+     Summary 0 tests run: 0 passed (0 flaky), 0 failed (0 timed out, 0 crashed), 0 skipped, 0 not run\n       \
+     ERROR no line of the input is of a test run\noutcome failed\n";
 
 /// The report of the first line of [`RUN`]: no test runs, and nothing says that the suite ended.
 const STARTED: &str = "suite 1 ended early\nsuite 1: 2 of 2 tests were not run\n------------\n     \
-     Summary 0 tests run: 0 passed (0 flaky), 0 failed (0 timed out, 0 crashed), 0 skipped, 2 not run\n\
-     outcome failed\n";
+     Summary 0 tests run: 0 passed (0 flaky), 0 failed (0 timed out, 0 crashed), 0 skipped, 2 not run\n       \
+     ERROR suite 1 ended early\noutcome failed\n";
 
-/// The report of the first two lines of [`RUN`], before and after what was printed while the test ran.
-const CRASHED: [&str; 2] = [
+/// The report of the first two lines of [`RUN`]: before and after what was printed while the test ran, and its end.
+const CRASHED: [&str; 3] = [
     "CRASH suite 1 a\n    its process ended before it did\n",
     "suite 1: 1 of 2 tests were not run\n------------\n     \
      Summary 1 tests run: 0 passed (0 flaky), 1 failed (0 timed out, 1 crashed), 0 skipped, 1 not run\n       \
-     CRASH suite 1 a: its process ended before it did\noutcome failed\n",
+     CRASH suite 1 a: its process ended before it did\n",
+    "outcome failed\n",
 ];
 
-/// The report of the first three lines of [`RUN`], before and after the next line.
-const FAILED: [&str; 2] = [
+/// The report of the first three lines of [`RUN`]: before and after the next line, and its end.
+const FAILED: [&str; 3] = [
     "FAIL suite 1 a\n    why\n",
     "suite 1 ended early\nsuite 1: 1 of 2 tests were not run\n------------\n     \
      Summary 1 tests run: 0 passed (0 flaky), 1 failed (0 timed out, 0 crashed), 0 skipped, 1 not run\n        \
-     FAIL suite 1 a: why\noutcome failed\n",
+     FAIL suite 1 a: why\n",
+    "       ERROR suite 1 ended early\noutcome failed\n",
 ];
 
 /// Returns the report of the first lines of [`RUN`], followed by a piece of the next line.
 fn report_of(lines: usize, piece: &str) -> String {
     let damage = damage_of(piece);
+    let listed = match damage.as_str() {
+        "" => String::new(),
+        damage => format!("       ERROR {damage}"),
+    };
     match lines {
         0 => String::from(NOTHING),
         1 => String::from(STARTED),
-        2 if piece.is_empty() => format!("{}{}", CRASHED[0], CRASHED[1]),
-        2 => format!("{damage}{}    {piece}\n{}", CRASHED[0], CRASHED[1]),
-        3 => format!("{}{damage}{}", FAILED[0], FAILED[1]),
+        2 if piece.is_empty() => CRASHED.concat(),
+        2 => {
+            let [before, after, end] = CRASHED;
+            // The damage is known before the test.
+            let after = after.replace("       CRASH", &format!("{listed}       CRASH"));
+            format!("{damage}{before}    {piece}\n{after}{end}")
+        }
+        3 => {
+            let [before, after, end] = FAILED;
+            format!("{before}{damage}{after}{listed}{end}")
+        }
         _ => report_of_run(),
     }
 }

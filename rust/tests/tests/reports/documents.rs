@@ -98,6 +98,12 @@ fn a_summary_has_texts_with_an_at_sign_as_code() {
     }
 }
 
+/// Returns a message of this number of bytes, in lines of 100 bytes, as a JSON text has it.
+fn message_of(letter: &str, size: usize) -> String {
+    let lines = format!("{}\n", letter.repeat(99)).repeat(size / 100 + 1);
+    lines[..size].replace('\n', "\\n")
+}
+
 /// Returns the summary of a run with a failed test for each of these messages.
 fn summary_of(messages: &[String]) -> String {
     let count = messages.len();
@@ -116,7 +122,7 @@ fn summary_of(messages: &[String]) -> String {
 
 /// Returns the summary of a run with this number of failed tests, each with a message of this number of bytes.
 fn long_summary(count: usize, size: usize) -> String {
-    summary_of(&vec!["m".repeat(size); count])
+    summary_of(&vec![message_of("m", size); count])
 }
 
 /// Returns the number of bytes that a failed test with this message has in the summary.
@@ -128,7 +134,7 @@ fn size_in_summary(message: &str) -> usize {
 
 #[test]
 fn a_summary_has_at_most_900_000_bytes_of_failed_tests() {
-    let most = 900_000 / size_in_summary(&"m".repeat(3_000));
+    let most = 900_000 / size_in_summary(&message_of("m", 3_000));
     for (count, shown) in [
         (most - 1, most - 1),
         (most, most),
@@ -156,17 +162,17 @@ fn a_summary_has_at_most_900_000_bytes_of_failed_tests() {
 #[test]
 fn a_summary_has_another_failed_test_if_it_fits_exactly() {
     let (one, long) = (3_000..3_100)
-        .map(|size| "m".repeat(size))
+        .map(|size| message_of("m", size))
         .map(|long| (size_in_summary(&long), long))
         .find(|(one, _)| (1_000..4_000).contains(&(900_000 % one)))
         .expect("a message leaves some bytes");
     let (before, left) = (900_000 / one, 900_000 % one);
-    // Bytes of the second line are in the details alone.
+    // Bytes of later lines are in the details alone.
     let first_line = "m".repeat(100);
-    let second = left - size_in_summary(&format!("{first_line}\\nn")) + 1;
-    for (size, more) in [(second, 0), (second + 1, 1)] {
+    let others = left - size_in_summary(&format!("{first_line}\\nn")) + 1;
+    for (size, more) in [(others, 0), (others + 1, 1)] {
         let mut messages = vec![long.clone(); before];
-        messages.push(format!("{first_line}\\n{}", "n".repeat(size)));
+        messages.push(format!("{first_line}\\n{}", message_of("n", size)));
         let summary = summary_of(&messages);
         let rows = summary.matches("\n| FAIL | suite 1 t").count();
         assert_eq!(rows, before + 1 - more);

@@ -16,7 +16,7 @@ fn lines_in_json() {
     \x20   cargo test writes such lines with: RUSTC_BOOTSTRAP=1 cargo test -- -Z unstable-options --format json\n\
     \x20   test-report -- cargo test does this by itself\n",
             summary: NOTHING,
-            list: "",
+            list: "       ERROR no line of the input is of a test run\n",
             outcome: "failed",
         },
         Case {
@@ -26,7 +26,7 @@ fn lines_in_json() {
     \x20   cargo test writes such lines with: RUSTC_BOOTSTRAP=1 cargo test -- -Z unstable-options --format json\n\
     \x20   test-report -- cargo test does this by itself\n",
             summary: NOTHING,
-            list: "",
+            list: "       ERROR no line of the input is of a test run\n",
             outcome: "failed",
         },
         Case {
@@ -42,7 +42,7 @@ fn lines_in_json() {
             lines: "error: could not compile `a` (lib) due to 1 previous error\n",
             notes: "cargo: error: could not compile `a` (lib) due to 1 previous error\n",
             summary: NOTHING,
-            list: "",
+            list: "       ERROR cargo: error: could not compile `a` (lib) due to 1 previous error\n",
             outcome: "failed",
         },
         Case {
@@ -66,7 +66,7 @@ fn lines_in_json() {
 "#,
             notes: "suite 1 ended early\n",
             summary: NOTHING,
-            list: "",
+            list: "       ERROR suite 1 ended early\n",
             outcome: "failed",
         },
         Case {
@@ -86,7 +86,9 @@ null
             notes: "suite 1 ended early\nsuite 2 ended early\nsuite 3 ended early\n\
                 suite 4 ended early\nsuite 5 ended early\n",
             summary: NOTHING,
-            list: "",
+            list: "       ERROR suite 1 ended early\n       ERROR suite 2 ended early\n       \
+                ERROR suite 3 ended early\n       ERROR suite 4 ended early\n       \
+                ERROR suite 5 ended early\n",
             outcome: "failed",
         },
         Case {
@@ -102,7 +104,7 @@ null
 "#,
             notes: "suite 1 ended early\nsuite 1: 1 of 1 tests were not run\n",
             summary: "0 tests run: 0 passed (0 flaky), 0 failed (0 timed out, 0 crashed), 0 skipped, 1 not run",
-            list: "",
+            list: "       ERROR suite 1 ended early\n",
             outcome: "failed",
         },
         Case {
@@ -142,10 +144,12 @@ fn numbers_of_attempts() {
             z#1001 ended failed, and had not started\n\
             suite 1: 1 of 5 tests were not run\n",
         summary: "4 tests run: 1 passed (1 flaky), 3 failed (0 timed out, 0 crashed), 0 skipped, 1 not run",
-        list: "   FLAKY 2/2 suite 1 z\n        \
+        list: "   FLAKY 2/2 suite 1 z\n       \
+            ERROR x#3 ended ok, and had not started\n        \
             FAIL suite 1 y#02: no output was captured\n        \
             FAIL suite 1 y#2: no output was captured\n        \
-            FAIL suite 1 z#1001: no output was captured\n",
+            FAIL suite 1 z#1001: no output was captured\n       \
+            ERROR z#1001 ended failed, and had not started\n",
         outcome: "failed",
     }]);
 }
@@ -163,7 +167,7 @@ done { "type": "test", "event": "ok", "name": "a" }
 "#,
             notes: "FAIL suite 1 a\n    why\na ended failed, and had not started\n",
             summary: "2 tests run: 1 passed (0 flaky), 1 failed (0 timed out, 0 crashed), 0 skipped, 0 not run",
-            list: "        FAIL suite 1 a: why\n",
+            list: "        FAIL suite 1 a: why\n       ERROR a ended failed, and had not started\n",
             outcome: "failed",
         },
         Case {
@@ -191,7 +195,10 @@ done { "type": "test", "event": "ok", "name": "a" }
                 \\u{a}\u{2028}\\u{3a}:x ended ok, and had not started\nx::y#[ ended ok, and had not started\n\
                 \\u{3a}::x ended early\n",
             summary: "1 tests run: 0 passed (0 flaky), 1 failed (0 timed out, 0 crashed), 0 skipped, 0 not run",
-            list: "        FAIL \\u{3a}::x \\u{23}#[group]: \\u{3a}:error::x\n",
+            list: "        FAIL \\u{3a}::x \\u{23}#[group]: \\u{3a}:error::x\n       \
+                ERROR  \\u{a}\u{2028}\\u{3a}:x ended ok, and had not started\n       \
+                ERROR x::y#[ ended ok, and had not started\n       \
+                ERROR \\u{3a}::x ended early\n",
             outcome: "failed",
         },
         Case {

@@ -8,6 +8,7 @@ mod failures;
 mod forms;
 mod hostile;
 mod levels;
+mod limits;
 mod long_lines;
 mod shown;
 mod small_run;

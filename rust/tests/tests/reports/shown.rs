@@ -20,30 +20,32 @@ const TWELVE_LINES: &str = r#"{"type":"suite","event":"started","test_count":1}
 "#;
 
 #[test]
-fn a_limit_cuts_before_a_character() {
-    for (limit, raw, shown, more) in [
-        (2, false, "£", 7),
-        (3, false, "£\\u{1b}", 6),
-        (3, true, "£\u{1b}", 6),
-        (6, true, "£\u{1b}[1m", 3),
-        (8, false, "£\\u{1b}[1m", 3),
-        (9, false, "£\\u{1b}[1m€", 0),
-        (9, true, "£\u{1b}[1m€", 0),
-        (usize::MAX, true, "£\u{1b}[1m€", 0),
+fn a_limit_cuts_a_short_reason_before_a_character() {
+    for (limit, raw, short) in [
+        (2, false, "£"),
+        (3, false, "£\\u{1b}"),
+        (3, true, "£\u{1b}"),
+        (6, true, "£\u{1b}[1m"),
+        (8, false, "£\\u{1b}[1m"),
+        (9, false, "£\\u{1b}[1m€"),
+        (9, true, "£\u{1b}[1m€"),
+        (usize::MAX, true, "£\u{1b}[1m€"),
     ] {
         let options = Options {
             limit,
             raw,
             ..OPTIONS
         };
-        let rest = match more {
-            0 => String::new(),
-            more => format!("    ({more} more bytes)\n"),
+        // The only line of a reason is shown whatever the limit is.
+        let why = if raw {
+            "£\u{1b}[1m€"
+        } else {
+            "£\\u{1b}[1m€"
         };
         let wanted = format!(
-            "FAIL suite 1 a\n    {shown}\n{rest}------------\n     \
+            "FAIL suite 1 a\n    {why}\n------------\n     \
              Summary 1 tests run: 0 passed (0 flaky), 1 failed (0 timed out, 0 crashed), 0 skipped, 0 not run\n        \
-             FAIL suite 1 a: {shown}\noutcome failed\n"
+             FAIL suite 1 a: {short}\noutcome failed\n"
         );
         let (text, _) = reported(options, Format::Text, &[RUN]);
         assert_eq!(text, wanted, "{options:?}");
@@ -113,7 +115,7 @@ log
 thread 'a' (7) panicked at src/a.rs:1:2:
 the worker panicked
 "#,
-            notes: "CRASH suite 1 a\n    its process ended before it did\n    \
+            notes: "CRASH suite 1 a\n    its process ended before it did\n    log\n    \
                 thread 'worker' (8) panicked at src/b.rs:3:4:\n    no money\n    log\n    \
                 thread 'a' (7) panicked at src/a.rs:1:2:\n    the worker panicked\n",
             summary: "1 tests run: 0 passed (0 flaky), 1 failed (0 timed out, 1 crashed), 0 skipped, 0 not run",

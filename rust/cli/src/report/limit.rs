@@ -1,0 +1,192 @@
+//! How much is shown of a text of a test: the middle of a text above the limit is left out, and that of a long line.
+
+use crate::report::escape::front;
+use crate::report::options::{Options, OutputDisplay};
+use std::borrow::Cow;
+
+/// A line with more bytes than this is long.
+const MOST_BYTES: usize = 512;
+
+/// How many bytes at the front of a long line are shown.
+const FRONT: usize = 384;
+
+/// How many bytes at the end of a long line are shown.
+const END: usize = 96;
+
+/// How long lines are shown.
+#[derive(Clone, Copy, Debug, PartialEq, Eq)]
+pub(crate) enum LongLines {
+    /// As their fronts and their ends.
+    Cut,
+
+    /// Whole.
+    Whole,
+}
+
+impl LongLines {
+    /// Returns how lines of this much of an output are shown.
+    pub(crate) fn of(output: OutputDisplay) -> LongLines {
+        match output {
+            OutputDisplay::Auto | OutputDisplay::Short => LongLines::Cut,
+            OutputDisplay::Whole => LongLines::Whole,
+        }
+    }
+
+    /// Returns what is shown of a line. Of a long one this is its front, the number of bytes in its middle, and its end.
+    fn line(self, line: &str) -> Cow<'_, str> {
+        if !self.cuts(line) {
+            return line.into();
+        }
+        let front = front(line, FRONT);
+        let end = &line[line.ceil_char_boundary(line.len() - END)..];
+        let middle = line.len() - front.len() - end.len();
+        format!("{front} .. {middle} bytes .. {end}").into()
+    }
+
+    /// Returns what is shown of the lines of a text. If it is borrowed, this is the text itself.
+    pub(crate) fn lines(self, text: &str) -> Cow<'_, str> {
+        if !text.split('\n').any(|line| self.cuts(line)) {
+            return text.into();
+        }
+        let mut lines = String::new();
+        for line in text.split_inclusive('\n') {
+            match line.strip_suffix('\n') {
+                Some(line) => lines.extend([&self.line(line), "\n"]),
+                None => lines.push_str(&self.line(line)),
+            }
+        }
+        lines.into()
+    }
+
+    /// Returns true if not all of a line is shown.
+    fn cuts(self, line: &str) -> bool {
+        match self {
+            LongLines::Cut => line.len() > MOST_BYTES,
+            LongLines::Whole => false,
+        }
+    }
+}
+
+/// How much is shown of a text.
+#[derive(Clone, Copy)]
+pub(crate) struct Limit {
+    /// The greatest number of bytes, before escapes.
+    bytes: usize,
+
+    /// How long lines count.
+    counted: LongLines,
+
+    /// How long lines are written.
+    written: LongLines,
+}
+
+impl Limit {
+    /// Returns how much is shown of why a test failed. Of the options it uses only `limit` and `output`.
+    pub(crate) fn of(options: Options) -> Limit {
+        let lines = LongLines::of(options.output);
+        Limit {
+            bytes: options.limit,
+            counted: lines,
+            written: lines,
+        }
+    }
+
+    /// Returns the limit of this number of bytes. Long lines are cut, because a single one could be longer.
+    pub(crate) fn within(bytes: usize) -> Limit {
+        Limit {
+            bytes,
+            counted: LongLines::Cut,
+            written: LongLines::Cut,
+        }
+    }
+
+    /// Returns how much is shown of the output of a test that passed: all of it, unless a limit is given.
+    pub(crate) fn of_passed(options: Options) -> Limit {
+        let output = match options.passed_limit {
+            usize::MAX => OutputDisplay::Whole,
+            _ => options.output,
+        };
+        Limit::of(Options {
+            limit: options.passed_limit,
+            output,
+            ..options
+        })
+    }
+
+    /// Returns the limit with which the same lines are shown, each of them whole.
+    pub(crate) fn with_whole_lines(self) -> Limit {
+        Limit {
+            written: LongLines::Whole,
+            ..self
+        }
+    }
+
+    /// Returns true if a text has no more bytes than the limit.
+    pub(crate) fn holds(self, text: &str) -> bool {
+        text.len() <= self.bytes
+    }
+
+    /// Returns how many bytes of the limit are left after these lines, or `None` if they are above it.
+    pub(crate) fn left_after<'a>(self, mut lines: impl Iterator<Item = &'a str>) -> Option<usize> {
+        // No line feed comes before the first line.
+        let most = self.bytes.saturating_add(1);
+        lines.try_fold(most, |left, line| left.checked_sub(self.size(line)))
+    }
+
+    /// Returns how many bytes a text has up to the end of its last line that fits into `room` bytes. The lines come in
+    /// the order in which they are taken, and each counts with a line feed.
+    pub(crate) fn fitting<'a>(
+        self,
+        lines: impl Iterator<Item = &'a str>,
+        mut room: usize,
+    ) -> usize {
+        let mut bytes = 0;
+        for line in lines {
+            let Some(left) = room.checked_sub(self.size(line)) else {
+                break;
+            };
+            room = left;
+            bytes += line.len() + 1;
+        }
+        bytes
+    }
+
+    /// Returns how many bytes are shown of a line and its line feed.
+    fn size(self, line: &str) -> usize {
+        self.counted.line(line).len() + 1
+    }
+
+    /// Returns what is shown of a text: all of it or, if it is above the limit, as many lines of its front as half of
+    /// the limit holds, the number of lines in its middle, and as many lines of its end. If it is borrowed, this is the
+    /// text itself.
+    pub(crate) fn shown(self, text: &str) -> Cow<'_, str> {
+        let Some((front, end)) = self.ends(text) else {
+            return self.written.lines(text);
+        };
+        let middle = &text.as_bytes()[front.len()..text.len() - end.len()];
+        // A line feed is before each line of the middle, and after the last one.
+        let lines = middle.iter().filter(|byte| **byte == b'\n').count() - 1;
+        let (front, end) = (self.written.lines(front), self.written.lines(end));
+        format!("{front}\n({lines} lines)\n{end}").into()
+    }
+
+    /// Returns the front and the end of a text above the limit, each of at least one line, or `None` if there is nothing
+    /// to leave out between them.
+    fn ends(self, text: &str) -> Option<(&str, &str)> {
+        if self.holds(text) || self.left_after(text.split('\n')).is_some() {
+            return None;
+        }
+        let half = self.bytes / 2 + 1;
+        let line = |line: Option<&str>| line.map_or(0, str::len);
+        let (first, last) = (text.split('\n').next(), text.rsplit('\n').next());
+        let front = self.fitting(text.split('\n'), half).max(line(first) + 1) - 1;
+        let end = self.fitting(text.rsplit('\n'), half).max(line(last) + 1) - 1;
+        let has_middle = front + 1 + end < text.len();
+        has_middle.then(|| (&text[..front], &text[text.len() - end..]))
+    }
+
+    /// Returns what is shown of a short reason, which is one line.
+    pub(crate) fn short(self, reason: &str) -> String {
+        front(&self.written.line(reason), self.bytes).to_string()
+    }
+}
