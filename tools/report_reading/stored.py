@@ -4,13 +4,13 @@ import difflib
 import re
 from decimal import Decimal
 
-from report_reading.run import SLOW, read
+from report_reading.run import SLOW, is_not_run, read
 from report_reading.suites import Test
 from report_reading.texts import flaky_line, heading, shown_text, shown_time, summary, names
 
 RULE = "------------"
 WHY = "    "
-LISTED = re.compile(r" *(?:FAIL|TIMEOUT|CRASH) (.*)")
+LISTED = re.compile(r" *(?:FAIL|TIMEOUT|CRASH|ERROR) (.*)")
 SLOWEST = re.compile(r" *SLOWEST (\[ *[0-9.]+s\] ).*")
 LEVELS = ["--status-level", "--final-status-level", "--failure-output", "--success-output"]
 COLOR = re.compile("\x1b\\[[0-9;]*m")
@@ -75,14 +75,16 @@ def flaky_differences(run, lines):
 
 
 def list_differences(run, lines, words):
-    """Returns the differences in the list after the `Summary` line: in the failed tests, and in the times of the slowest."""
+    """Returns the differences in the list after the `Summary` line: in the failed tests and the contradictions, and in the
+    times of the slowest tests."""
     listed = [line[1] for line in map(LISTED.fullmatch, lines) if line]
-    failed = [f"{shown_time(test.time)}{names(test)}" for test in run.failed_tests()]
+    notes = [note for note in run.notes if not is_not_run(note)]
+    failed = [f"{shown_time(note.time)}{names(note)}" if isinstance(note, Test) else note.line for note in notes]
     begins = [whole[: len(begin)] for whole, begin in zip(listed, failed)] + listed[len(failed) :]
     slow = [line[1] for line in map(SLOWEST.fullmatch, lines) if line]
     slowest = run.slowest(int(option(words, "--slowest", "0")))
     return [
-        *differing(failed, begins, "list of failed tests"),
+        *differing(failed, begins, "list of failed tests and contradictions"),
         *differing([shown_time(test.time) for test in slowest], slow, "times of slow tests"),
     ]
 

@@ -200,7 +200,7 @@ fn with_options(command: Command) -> Command {
                 .long("limit")
                 .value_name("BYTES")
                 .value_hint(ValueHint::Other)
-                .help("Show at most BYTES bytes of the reason of each failed test, or all if it is `none` [default: 4096]"),
+                .help("Leave out lines in the middle of a reason that has more than BYTES bytes, or none if it is `none` [default: 4096]"),
         )
         .arg(
             choice("output", "HOW", "auto", ["auto", "short", "whole"])

@@ -1,7 +1,7 @@
 //! Failed tests, and what is shown of why they failed.
 
 use crate::report::explanation::{Excerpt, Explanation, Found};
-use crate::report::limit::Limit;
+use crate::report::limit::{Limit, may_have_cut_lines};
 use crate::report::lines::{without_returns, written_count};
 use crate::report::options::{Options, OutputDisplay};
 use crate::report::place::Place;
@@ -54,9 +54,14 @@ impl Why {
     /// Returns these parts, one below the other, as far as the limit holds them. `hidden` is the number of lines of the
     /// output that are in none of them.
     fn of(parts: &[Cow<'_, str>], hidden: usize, limit: Limit) -> Why {
-        let whole = without_returns(&parts.join("\n"));
+        // A single part, which may be long, is not copied.
+        let joined = match parts {
+            [part] => Cow::from(part.as_ref()),
+            parts => parts.join("\n").into(),
+        };
+        let whole = without_returns(&joined);
         let (mut text, is_partial) = match limit.shown(&whole) {
-            Cow::Borrowed(_) => (whole, hidden > 0),
+            Cow::Borrowed(_) => (whole.into_owned(), hidden > 0),
             Cow::Owned(shown) => (shown, true),
         };
         if hidden > 0 {
@@ -82,7 +87,7 @@ impl<'a> ShownFailure<'a> {
     }
 
     /// Returns the short reason: one line.
-    pub(crate) fn short(&self) -> String {
+    pub(crate) fn short(&self) -> Cow<'_, str> {
         Limit::of(self.options).short(&self.reason)
     }
 
@@ -105,15 +110,11 @@ impl<'a> ShownFailure<'a> {
     /// Returns the same lines as `short` and `why`, with all lines whole, or `None` if they are whole there.
     pub(crate) fn whole_lines(&self) -> Option<WholeLines> {
         let limit = Limit::of(self.options).with_whole_lines();
-        let (short, shown) = (limit.short(&self.reason), self.why());
-        let why = shown
-            .is_partial
-            .then(|| self.why_with(self.options.output, limit).text)
-            .filter(|why| *why != shown.text);
-        let is_same = why.is_none() && short == self.short();
-        (!is_same).then(|| WholeLines {
-            short,
-            why: why.unwrap_or_else(|| shown.text.clone()),
+        let short = limit.short(&self.reason);
+        let may_differ = short != self.short() || may_have_cut_lines(&self.why().text);
+        may_differ.then(|| WholeLines {
+            short: short.into_owned(),
+            why: self.why_with(self.options.output, limit).text,
         })
     }
 

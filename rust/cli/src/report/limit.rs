@@ -13,6 +13,9 @@ const FRONT: usize = 384;
 /// How many bytes at the end of a long line are shown.
 const END: usize = 96;
 
+/// What is between the number of bytes in the middle of a long line and its end.
+const BYTES: &str = " bytes .. ";
+
 /// How long lines are shown.
 #[derive(Clone, Copy, Debug, PartialEq, Eq)]
 pub(crate) enum LongLines {
@@ -40,10 +43,10 @@ impl LongLines {
         let front = front(line, FRONT);
         let end = &line[line.ceil_char_boundary(line.len() - END)..];
         let middle = line.len() - front.len() - end.len();
-        format!("{front} .. {middle} bytes .. {end}").into()
+        format!("{front} .. {middle}{BYTES}{end}").into()
     }
 
-    /// Returns what is shown of the lines of a text. If it is borrowed, this is the text itself.
+    /// Returns what is shown of the lines of a text. If it is borrowed, it is the text itself.
     pub(crate) fn lines(self, text: &str) -> Cow<'_, str> {
         if !text.split('\n').any(|line| self.cuts(line)) {
             return text.into();
@@ -65,6 +68,11 @@ impl LongLines {
             LongLines::Whole => false,
         }
     }
+}
+
+/// Returns false only if all lines of a text that is shown are whole.
+pub(crate) fn may_have_cut_lines(shown: &str) -> bool {
+    shown.contains(BYTES)
 }
 
 /// How much is shown of a text.
@@ -157,7 +165,7 @@ impl Limit {
     }
 
     /// Returns what is shown of a text: all of it or, if it is above the limit, as many lines of its front as half of
-    /// the limit holds, the number of lines in its middle, and as many lines of its end. If it is borrowed, this is the
+    /// the limit holds, the number of lines in its middle, and as many lines of its end. If it is borrowed, it is the
     /// text itself.
     pub(crate) fn shown(self, text: &str) -> Cow<'_, str> {
         let Some((front, end)) = self.ends(text) else {
@@ -186,7 +194,10 @@ impl Limit {
     }
 
     /// Returns what is shown of a short reason, which is one line.
-    pub(crate) fn short(self, reason: &str) -> String {
-        front(&self.written.line(reason), self.bytes).to_string()
+    pub(crate) fn short(self, reason: &str) -> Cow<'_, str> {
+        match self.written.line(reason) {
+            Cow::Borrowed(line) => front(line, self.bytes).into(),
+            Cow::Owned(line) => front(&line, self.bytes).to_string().into(),
+        }
     }
 }

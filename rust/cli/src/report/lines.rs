@@ -1,5 +1,7 @@
 //! The lines of a text.
 
+use std::borrow::Cow;
+
 /// How many lines of an output are shown if nothing in it explains a failure.
 const SHOWN_LINES: usize = 10;
 
@@ -15,8 +17,12 @@ pub(crate) fn without_return(line: &str) -> &str {
 }
 
 /// Returns a text without the carriage returns that are right before a line feed.
-pub(crate) fn without_returns(text: &str) -> String {
-    text.replace("\r\n", "\n")
+pub(crate) fn without_returns(text: &str) -> Cow<'_, str> {
+    if text.contains("\r\n") {
+        text.replace("\r\n", "\n").into()
+    } else {
+        text.into()
+    }
 }
 
 /// Returns the lines of a text that are not blank.

@@ -362,7 +362,7 @@ impl ModelBuilder {
     fn on_failed(&mut self, failure: &ShownFailure<'_>) {
         let test = failure.test;
         self.slowest.add(test.time, || title(test));
-        let (short, why) = (failure.short(), failure.why());
+        let why = failure.why();
         let stdout = failure.failure.stdout.as_deref();
         let shorter = Some(failure)
             .filter(|_| self.wanted.summary)
@@ -384,7 +384,7 @@ impl ModelBuilder {
                 }),
             output: stdout.filter(|_| self.wanted.all_tests).map(str::to_string),
             whole_lines: json.and_then(ShownFailure::whole_lines),
-            short,
+            short: failure.short().into_owned(),
             why: why.text.clone(),
             summary_why: shorter.map(|why| why.text),
             page_output: page.and_then(|output| self.page_room.take(output)),
