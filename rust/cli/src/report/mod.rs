@@ -6,7 +6,7 @@
 //!
 //! | from | by | to |
 //! |---|---|---|
-//! | a note of the run | `entry`, with `failure` (why a test failed) and `problem` | an entry, which all forms take |
+//! | a note of the run | `entry`, with `failure` (why a test failed), `problem` and `limit` (how much is shown) | an entry, which all forms take |
 //! | entries | `text`, `annotations` | text, through the proved type `ReportText` |
 //! | entries | `model` | one model of the finished report, which is JSON by its derives |
 //! | the model | `values`, `junit` | a page, a summary and JUnit's XML, through the proved templates |
