@@ -16,6 +16,8 @@ pub mod others;
 #[doc(hidden)]
 pub mod output_files;
 #[doc(hidden)]
+pub mod process_streams;
+#[doc(hidden)]
 pub mod program;
 #[doc(hidden)]
 pub mod program_io;

@@ -1,7 +1,7 @@
 //! Reads the files of a run in a thread of its own, so that the program can act while no line comes.
 
 use std::io::{self, ErrorKind, Read};
-use std::sync::mpsc::{Receiver, RecvTimeoutError, SyncSender, sync_channel};
+use std::sync::mpsc::{Receiver, RecvTimeoutError, sync_channel};
 use std::thread;
 use std::time::Duration;
 
@@ -23,7 +23,7 @@ impl Reading {
     /// Fails if the system has no thread left.
     pub fn start(reader: impl Read + Send + 'static) -> io::Result<Reading> {
         let (sender, pieces) = sync_channel(WAITING);
-        thread::Builder::new().spawn(move || send_all(reader, &sender))?;
+        thread::Builder::new().spawn(move || send_all(reader, |piece| sender.send(piece)))?;
         Ok(Reading { pieces })
     }
 
@@ -44,23 +44,21 @@ impl Reading {
     }
 }
 
-/// Sends the pieces of a reader until it ends or fails, or until nobody takes them any more.
-fn send_all(mut reader: impl Read, sender: &SyncSender<io::Result<Vec<u8>>>) {
+/// Sends the pieces of a reader until it ends or fails, or until nobody takes them any more. The last one is an error, or
+/// is empty.
+pub fn send_all<E>(mut reader: impl Read, send: impl Fn(io::Result<Vec<u8>>) -> Result<(), E>) {
     loop {
         let mut piece = vec![0; PIECE];
-        let sent = match reader.read(&mut piece) {
-            Ok(0) => return,
-            Ok(count) => {
-                piece.truncate(count);
-                sender.send(Ok(piece))
-            }
-            Err(error) if error.kind() == ErrorKind::Interrupted => Ok(()),
-            Err(error) => {
-                let _ = sender.send(Err(error));
-                return;
-            }
+        let read = reader.read(&mut piece).map(|count| {
+            piece.truncate(count);
+            piece
+        });
+        let is_last = match &read {
+            Ok(piece) => piece.is_empty(),
+            Err(error) if error.kind() == ErrorKind::Interrupted => continue,
+            Err(_) => true,
         };
-        if sent.is_err() {
+        if send(read).is_err() || is_last {
             return;
         }
     }

@@ -186,7 +186,7 @@ impl<'a, 'line, W: Write> RunReader<'a, 'line, W> {
     fn read(&mut self, reader: impl Read + Send + 'static) -> Result<(), Failure> {
         let reading = Reading::start(reader).map_err(unread)?;
         loop {
-            if let Some(piece) = self.next_piece(&reading, None)? {
+            if let Some(piece) = self.next_piece(&reading)? {
                 self.take_piece(&piece)?;
                 if piece.is_empty() {
                     return Ok(self.end_line()?);
@@ -196,20 +196,19 @@ impl<'a, 'line, W: Write> RunReader<'a, 'line, W> {
         }
     }
 
-    /// Returns the next piece, or `None` if something else is to be done first, at latest after `longest`.
-    fn next_piece(
-        &mut self,
-        reading: &Reading,
-        longest: Option<Duration>,
-    ) -> Result<Option<Vec<u8>>, Failure> {
-        let line = self.streams.line.borrow().time_until_due(Instant::now());
-        let message = self.message.map(|_| LONGEST_PAUSE);
-        let wait = line.or(message).into_iter().chain(longest).min();
-        let piece = reading.next_piece(wait).map_err(unread)?;
+    /// Returns the next piece, or `None` if something else is to be done first.
+    fn next_piece(&mut self, reading: &Reading) -> Result<Option<Vec<u8>>, Failure> {
+        let piece = reading.next_piece(self.longest_wait()).map_err(unread)?;
         if piece.is_none() {
             self.say_once();
         }
         Ok(piece)
+    }
+
+    /// Returns how long to wait for input until something else is to be done, if anything is.
+    fn longest_wait(&self) -> Option<Duration> {
+        let line = self.streams.line.borrow().time_until_due(Instant::now());
+        line.or(self.message.map(|_| LONGEST_PAUSE))
     }
 
     /// Passes the lines that end in a piece of a file to the report.

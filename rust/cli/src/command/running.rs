@@ -1,16 +1,13 @@
 //! A command that runs, while the program reads what it writes.
 
+use crate::program::{DEVICE_FAILED, Failure};
 use std::io::{self, PipeReader, pipe};
-use std::process::{Child, Command, ExitStatus};
+use std::process::{Child, Command, ExitStatus, Stdio};
 use std::thread;
 use std::time::{Duration, Instant};
 
-/// How long output is still read after the end of the command, from its end or from the last output on. A process in
-/// the background may keep the pipe open.
+/// How long a command that was asked to end is waited for.
 const QUIET: Duration = Duration::from_secs(2);
-
-/// The longest time between two looks at the command.
-pub const LOOK: Duration = Duration::from_millis(100);
 
 /// The time between two looks at a command that was asked to end.
 const SHORT_LOOK: Duration = Duration::from_millis(5);
@@ -21,9 +18,6 @@ const SHORT_LOOK: Duration = Duration::from_millis(5);
 pub struct RunningCommand {
     child: Child,
     status: Option<ExitStatus>,
-
-    /// When output last came, or the command ended.
-    last: Instant,
 }
 
 impl RunningCommand {
@@ -34,33 +28,33 @@ impl RunningCommand {
     pub fn start(mut command: Command) -> io::Result<(RunningCommand, PipeReader)> {
         let (output, writer) = pipe()?;
         command.stdout(writer.try_clone()?).stderr(writer);
-        Ok((RunningCommand::spawn(command)?, output))
+        // The command is dropped, and with it the ends of the pipe that this program would have.
+        Ok((RunningCommand::start_alone(&mut command)?, output))
     }
 
     /// Starts a command. Returns it, what it writes to standard output, and what it writes to standard error.
     ///
     /// Fails if the command cannot be started.
     pub fn start_apart(
-        mut command: Command,
+        command: &mut Command,
     ) -> io::Result<(RunningCommand, PipeReader, PipeReader)> {
         let (output, output_writer) = pipe()?;
         let (errors, errors_writer) = pipe()?;
         command.stdout(output_writer).stderr(errors_writer);
-        Ok((RunningCommand::spawn(command)?, output, errors))
+        let running = RunningCommand::start_alone(command)?;
+        // The command would hold its ends of the pipes open.
+        command.stdout(Stdio::null()).stderr(Stdio::null());
+        Ok((running, output, errors))
     }
 
-    /// Starts a command. It is dropped, and with it the ends of the pipes that this program would have.
-    fn spawn(mut command: Command) -> io::Result<RunningCommand> {
+    /// Starts a command with the standard streams that it names, or else with those of this program.
+    ///
+    /// Fails if the command cannot be started.
+    pub fn start_alone(command: &mut Command) -> io::Result<RunningCommand> {
         Ok(RunningCommand {
             child: command.spawn()?,
             status: None,
-            last: Instant::now(),
         })
-    }
-
-    /// Notes that output came.
-    pub fn note_output(&mut self, now: Instant) {
-        self.last = now;
     }
 
     /// Returns the status with which the command ended, or `None` if it runs.
@@ -69,19 +63,8 @@ impl RunningCommand {
     pub fn status(&mut self) -> io::Result<Option<ExitStatus>> {
         if self.status.is_none() {
             self.status = self.child.try_wait()?;
-            if self.status.is_some() {
-                self.last = Instant::now();
-            }
         }
         Ok(self.status)
-    }
-
-    /// Returns true if the command has ended and nothing came since for two seconds.
-    ///
-    /// Fails if the system does not say whether the command runs.
-    pub fn is_over(&mut self, now: Instant) -> io::Result<bool> {
-        let has_ended = self.status()?.is_some();
-        Ok(has_ended && now.saturating_duration_since(self.last) >= QUIET)
     }
 
     /// Asks the command to end, by SIGTERM, unless it has ended. Other systems end it.
@@ -101,6 +84,11 @@ impl Drop for RunningCommand {
             thread::sleep(SHORT_LOOK);
         }
     }
+}
+
+/// Returns the failure to learn whether a command has ended.
+pub fn not_waited(error: io::Error) -> Failure {
+    Failure::new(DEVICE_FAILED, "the command cannot be waited for").caused_by(Some(error))
 }
 
 #[cfg(unix)]
@@ -180,7 +168,7 @@ mod tests {
         let mut command = Command::new("sh");
         command.args(["-c", "echo a; echo b >&2; echo c"]);
         let (mut running, output, errors) =
-            RunningCommand::start_apart(command).expect("a shell starts");
+            RunningCommand::start_apart(&mut command).expect("a shell starts");
         let text = |reader| io::read_to_string(reader).expect("the pipe ends");
         assert_eq!([text(output), text(errors)], ["a\nc\n", "b\n"]);
         assert_eq!(status_of(&mut running).code(), Some(0));
@@ -223,23 +211,6 @@ mod tests {
         let start = Instant::now();
         drop(running);
         assert!(start.elapsed() >= QUIET && start.elapsed() < 4 * QUIET);
-    }
-
-    #[test]
-    fn a_command_is_over_two_seconds_after_its_end_and_its_last_output() {
-        let (mut running, _output) = start("exit 0");
-        let before = Instant::now();
-        assert!(!running.is_over(before).expect("the command is a child"));
-        status_of(&mut running);
-        let second = Duration::from_secs(1);
-        let ended = Instant::now();
-        let is_over =
-            |running: &mut RunningCommand, now| running.is_over(now).expect("it is known");
-        assert!(!is_over(&mut running, before + second));
-        assert!(is_over(&mut running, ended + 2 * second));
-        running.note_output(ended + second);
-        assert!(!is_over(&mut running, ended + 2 * second));
-        assert!(is_over(&mut running, ended + 3 * second));
     }
 
     #[test]

@@ -7,9 +7,9 @@ use crate::command::end::end_of;
 use crate::command::hidden::HiddenStandIn;
 use crate::command::prepared::{Build, Prepared, prepare};
 use crate::command::repeated::Repeated;
-use crate::command::running::{LOOK, RunningCommand};
-use crate::program::{DEVICE_FAILED, Failure};
-use crate::reading::Reading;
+use crate::command::running::{RunningCommand, not_waited};
+use crate::process_streams::{LOOK, ProcessStreams, Stream};
+use crate::program::Failure;
 use deodarsieve_run::CommandEnd;
 use deodarsieve_run::SuiteNames;
 use std::ffi::OsString;
@@ -81,7 +81,7 @@ impl<W: Write> RunReader<'_, '_, W> {
     /// Builds the tests of a command, and passes cargo's messages on to standard error.
     fn build(&mut self, prepared: &Prepared, build: &Build) -> Result<Built, Failure> {
         let mut messages = Vec::new();
-        let started = RunningCommand::start_apart(prepared.build_command(build));
+        let started = RunningCommand::start_apart(&mut prepared.build_command(build));
         let (mut command, output, errors) = match started {
             Ok(started) => started,
             Err(error) => {
@@ -93,8 +93,9 @@ impl<W: Write> RunReader<'_, '_, W> {
             }
         };
         let artifacts = Artifacts::start(output, build.folder.clone()).map_err(unread)?;
-        let reading = Reading::start(errors).map_err(unread)?;
-        self.read_output(&reading, &mut command, |reader, piece| {
+        let streams = ProcessStreams::start([(Stream::Error, Box::new(errors))]);
+        let mut streams = streams.map_err(unread)?;
+        self.read_output(&mut streams, &mut command, |reader, piece| {
             messages.extend_from_slice(piece);
             reader.write_on(piece);
             Ok(())
@@ -129,9 +130,10 @@ impl<W: Write> RunReader<'_, '_, W> {
     fn run(&mut self, prepared: &Prepared) -> Result<CommandEnd, Failure> {
         match RunningCommand::start(prepared.command()) {
             Ok((mut command, output)) => {
-                let reading = Reading::start(output).map_err(unread)?;
+                let streams = ProcessStreams::start([(Stream::Output, Box::new(output))]);
+                let mut streams = streams.map_err(unread)?;
                 let mut hidden = HiddenStandIn::new(prepared.stand_in.as_deref());
-                self.read_output(&reading, &mut command, |reader, piece| {
+                self.read_output(&mut streams, &mut command, |reader, piece| {
                     reader.take_some(&hidden.shown(piece))
                 })?;
                 self.take_some(&hidden.rest())?;
@@ -152,24 +154,23 @@ impl<W: Write> RunReader<'_, '_, W> {
     /// Reads what a command writes, until the pipe ends or the command is over, and takes each piece.
     fn read_output(
         &mut self,
-        reading: &Reading,
+        streams: &mut ProcessStreams,
         command: &mut RunningCommand,
         mut take: impl FnMut(&mut Self, &[u8]) -> Result<(), Failure>,
     ) -> Result<(), Failure> {
-        loop {
-            if let Some(piece) = self.next_piece(reading, Some(LOOK))? {
-                if piece.is_empty() {
-                    return Ok(());
-                }
-                take(self, &piece)?;
-                command.note_output(Instant::now());
+        while !streams.are_over(Instant::now()) {
+            let wait = self.longest_wait().map_or(LOOK, |wait| wait.min(LOOK));
+            match streams.next_piece(wait).map_err(unread)? {
+                Some((_, piece)) => take(self, &piece)?,
+                None => self.say_once(),
             }
             self.pass_signal_on(command);
-            if command.is_over(Instant::now()).map_err(not_waited)? {
-                return Ok(());
+            if command.status().map_err(not_waited)?.is_some() {
+                streams.note_end(Instant::now());
             }
             self.draw();
         }
+        Ok(())
     }
 
     /// Waits for the end of a command whose output has ended.
@@ -198,9 +199,4 @@ fn not_started(error: &io::Error) -> CommandEnd {
     CommandEnd::NotStarted {
         error: error.to_string(),
     }
-}
-
-/// Returns the failure to learn whether a command has ended.
-fn not_waited(error: io::Error) -> Failure {
-    Failure::new(DEVICE_FAILED, "the command cannot be waited for").caused_by(Some(error))
 }
