@@ -49,7 +49,7 @@ Examples:
   test-report -- cargo test                              run all tests, and report those that failed
   test-report --html report.html -- cargo test -p money  the text, and a page for a browser
   test-report -- cargo nextest run                       the same with nextest
-  cargo test-report -- -p money                          the same as `test-report -- cargo test -p money`
+  cargo test-report -p money                             the same as `test-report -- cargo test -p money`
   test-report --junit junit.xml -- ..                    the text, and a file for a build server
   test-report --markdown \"$GITHUB_STEP_SUMMARY\" -- ..    the text, and a summary on GitHub
   test-report --json report.json -- ..                   the text, and a file for other programs
@@ -82,7 +82,8 @@ Exit status:
 const AFTER_CARGO_HELP: &str = "\
 Examples:
   cargo test-report                                      run all tests, and report those that failed
-  cargo test-report --html report.html -- -p money       the text of one package, and a page for a browser
+  cargo test-report --html report.html -p money          the text of one package, and a page for a browser
+  cargo test-report -p money -- --exact tests::adds      one test of one package
 
 It is the same as `test-report [OPTIONS] -- cargo test [ARG]..`: `test-report --help` says more.";
 
@@ -123,10 +124,11 @@ pub fn test_report() -> Command {
 pub fn cargo_test_report() -> Command {
     let argument = words("argument", "ARG")
         .num_args(0..)
-        .help("The arguments of `cargo test`");
+        .help("The arguments of `cargo test`: all that are not options here, and from `--` on those of the tests");
     let about = "Runs `cargo test`, and reports which tests failed, and why";
     let program = Command::new("cargo-test-report")
         .bin_name("cargo test-report")
+        .override_usage("cargo test-report [OPTIONS] [ARG]... [-- [ARG]...]")
         .about(about);
     with_options(program.arg(argument))
         .after_help(format!("{AFTER_CARGO_HELP}\n\n{REPORT_STATUSES}"))

@@ -6,6 +6,8 @@
 #![deny(unsafe_code)]
 
 #[doc(hidden)]
+pub mod cargo_arguments;
+#[doc(hidden)]
 pub mod command;
 #[doc(hidden)]
 pub mod commands;

@@ -1,5 +1,6 @@
 //! The program `test-report`, which `cargo-test-report` is too.
 
+use crate::cargo_arguments::divided;
 use crate::command::stand_in::stand_in;
 use crate::commands::{cargo_test_report, test_report};
 use crate::interrupt::Interrupt;
@@ -279,8 +280,8 @@ fn input_of(matches: &ArgMatches) -> Input {
     }
 }
 
-/// Returns the command of `cargo-test-report`, which reads `cargo test` with the words after `--`. cargo names itself
-/// in a variable.
+/// Returns the command of `cargo-test-report`, which reads `cargo test` with the arguments for it. cargo names itself in a
+/// variable.
 fn cargo_test(matches: &ArgMatches) -> Input {
     let cargo = env::var_os("CARGO").unwrap_or_else(|| "cargo".into());
     let words = matches
@@ -340,9 +341,10 @@ pub fn test_report_with(arguments: Vec<OsString>) -> Result<ExitCode, Failure> {
 
 /// Returns the exit status of `cargo-test-report` with these arguments, the first of which is the program's name.
 pub fn cargo_test_report_with(arguments: Vec<OsString>) -> Result<ExitCode, Failure> {
-    let arguments = without_subcommand(arguments);
+    let program = cargo_test_report();
+    let arguments = divided(program.clone(), without_subcommand(arguments));
     refuse_other_text(&arguments)?;
-    run(cargo_test_report(), arguments, cargo_test)
+    run(program, arguments, cargo_test)
 }
 
 /// Runs a program with the arguments of this process, and returns the exit status. If cargo started the process in

@@ -15,6 +15,7 @@ use std::collections::VecDeque;
 use std::ffi::OsString;
 use std::fs::File;
 use std::io::{self, Read, Stderr, Write};
+use std::path::Path;
 use std::time::{Duration, Instant};
 
 mod command;
@@ -22,6 +23,9 @@ mod command;
 /// The message after Ctrl-C, if the input stays open.
 const STILL_READING: &str =
     "test-report: the summary follows at the end of the input; a second Ctrl-C ends without it";
+
+/// The name of a file that somebody has forgotten the `--` before.
+const CARGO: &str = "cargo";
 
 /// What a run is read from.
 #[derive(Clone, Debug, PartialEq, Eq)]
@@ -154,6 +158,7 @@ impl<'a, 'line, W: Write> RunReader<'a, 'line, W> {
     pub fn report(mut self, input: &Input) -> Result<Ended, Failure> {
         let command = match input {
             Input::Files(files) => {
+                refuse_command(files)?;
                 for (place, path) in files.iter().enumerate() {
                     if place > 0 {
                         self.report.end_file(&mut self.streams.output)?;
@@ -173,13 +178,8 @@ impl<'a, 'line, W: Write> RunReader<'a, 'line, W> {
         if path == STANDARD_INPUT {
             return self.read(StandardInput::get());
         }
-        match File::open(path) {
-            Ok(file) => self.read(file),
-            Err(error) => {
-                let message = format!("{path} cannot be opened");
-                Err(Failure::new(DEVICE_FAILED, message).caused_by(Some(error)))
-            }
-        }
+        let file = File::open(path).map_err(|error| unopened(path, error))?;
+        self.read(file)
     }
 
     /// Reads a file of the run to its end.
@@ -277,6 +277,24 @@ impl<'a, 'line, W: Write> RunReader<'a, 'line, W> {
             progress_text(run, seconds)
         });
     }
+}
+
+/// Fails if the first file is not there and is called `cargo`: somebody meant a command.
+fn refuse_command(files: &[String]) -> Result<(), Failure> {
+    match files.first() {
+        Some(path) if path == CARGO && !Path::new(path).exists() => {
+            let command = files.join(" ");
+            let hint = format!("to run a command: test-report -- {command}");
+            Err(Failure::new(DEVICE_FAILED, hint))
+        }
+        _ => Ok(()),
+    }
+}
+
+/// Returns the failure to open a file of the run.
+fn unopened(path: &str, error: io::Error) -> Failure {
+    let message = format!("{path} cannot be opened");
+    Failure::new(DEVICE_FAILED, message).caused_by(Some(error))
 }
 
 /// Returns the failure of a read.

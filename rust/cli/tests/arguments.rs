@@ -2,7 +2,7 @@
 
 mod common;
 
-use common::{assert_output, run};
+use common::{Folder, assert_output, run};
 use std::path::Path;
 use std::process::Output;
 
@@ -231,4 +231,27 @@ fn version_is_that_of_the_package() {
             assert_eq!(stdout_of(&output), version);
         }
     }
+}
+
+#[test]
+fn a_command_without_the_two_hyphens_is_refused() {
+    let folder = Folder::new("hyphens");
+    for (arguments, line) in [
+        (&["cargo", "test"][..], "test-report -- cargo test"),
+        (
+            &["--raw", "cargo", "nextest", "run"],
+            "test-report -- cargo nextest run",
+        ),
+    ] {
+        let mut command = common::command("test-report", arguments);
+        let output = command.current_dir(&folder.0).output();
+        let output = output.expect("the program runs");
+        let message = format!("test-report: to run a command: {line}\n");
+        common::assert_output(&output, b"", message.as_bytes(), 3, line);
+    }
+    // A file of this name is a file.
+    std::fs::write(folder.file("cargo"), "").expect("the folder is there");
+    let mut command = common::command("test-report", &["cargo"]);
+    let output = command.current_dir(&folder.0).output();
+    assert_eq!(output.expect("the program runs").status.code(), Some(1));
 }

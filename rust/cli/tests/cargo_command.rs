@@ -222,22 +222,29 @@ fn cargo_starts_the_report_as_its_subcommand() {
         &["--format", "names", "--others", "never"],
     ];
     for arguments in lists {
-        let arguments = &[arguments, &["--", "--lib", "fail"]].concat();
-        let output = run_in(&folder.0, &mut command("cargo-test-report", arguments));
-        assert_failed(&output, "fails\n", "");
+        for own in [&["--lib", "fail"][..], &["--lib", "--", "fail"]] {
+            let arguments = &[arguments, own].concat();
+            let output = run_in(&folder.0, &mut command("cargo-test-report", arguments));
+            assert_failed(&output, "fails\n", "");
+        }
     }
-    for arguments in [&["test-report", "file.jsonl"][..], &["--nothing"]] {
-        let output = run_in(&folder.0, &mut command("cargo-test-report", arguments));
-        assert!(output.stderr.starts_with(b"error: "), "{arguments:?}");
-        assert_eq!(output.status.code(), Some(2), "{arguments:?}");
-    }
+    // Its own options may be anywhere.
+    let arguments = ["--lib", "--format=names", "fail", "--others", "never"];
+    let output = run_in(&folder.0, &mut command("cargo-test-report", &arguments));
+    assert_failed(&output, "fails\n", "");
+    let output = run_in(
+        &folder.0,
+        &mut command("cargo-test-report", &["--format", "nothing"]),
+    );
+    assert!(output.stderr.starts_with(b"error: "));
+    assert_eq!(output.status.code(), Some(2));
     let output = run_in(
         &folder.0,
         &mut command("cargo-test-report", &["test-report", "--help"]),
     );
     let help = String::from_utf8_lossy(&output.stdout);
     assert!(
-        help.contains("Usage: cargo test-report [OPTIONS] [-- [ARG]...]"),
+        help.contains("Usage: cargo test-report [OPTIONS] [ARG]... [-- [ARG]...]"),
         "{help}"
     );
 }
