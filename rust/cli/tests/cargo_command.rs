@@ -248,3 +248,90 @@ fn cargo_starts_the_report_as_its_subcommand() {
         "{help}"
     );
 }
+
+#[test]
+fn aliases_of_cargo_are_run_as_cargo() {
+    let folder = Folder::new("aliases");
+    write_package(&folder);
+    fs::create_dir(folder.0.join(".cargo")).expect("it is new");
+    let aliases =
+        "[alias]\nta = 'test --lib'\ntb = ['ta', 'fails']\ntest = 'build'\nloop = 'loop --lib'\n";
+    fs::write(folder.0.join(".cargo/config.toml"), aliases).expect("the folder is there");
+    let output_of = |arguments: &[&str]| {
+        let options = [
+            "--format",
+            "names",
+            "--others",
+            "never",
+            "--",
+            env!("CARGO"),
+        ];
+        let mut command = command("test-report", &[&options, arguments].concat());
+        run_in(
+            &folder.0,
+            command.env("CARGO_ALIAS_OWN_TEST", "tb -- --skip fails"),
+        )
+    };
+    assert_failed(&output_of(&["ta"]), "fails\n", "");
+    assert_failed(&output_of(&["tb"]), "fails\n", "");
+    assert_failed(&output_of(&["tb", "--", "--skip", "fails"]), "", "");
+    assert_failed(&output_of(&["own-test"]), "", "");
+    assert_failed(&output_of(&["test"]), NAMES, "");
+    assert_failed(
+        &output_of(&["--config", "alias.tc='test --test it'", "tc"]),
+        "is_killed\n",
+        "",
+    );
+    assert_eq!(output_of(&["loop"]).status.code(), Some(1));
+}
+
+#[test]
+fn only_another_command_that_writes_no_event_gets_advice() {
+    let folder = Folder::new("advice");
+    let text_of = |words: &[&str]| {
+        let arguments = [&["--others", "never", "--"], words].concat();
+        let output = report(&folder, &arguments);
+        assert_eq!(output.status.code(), Some(1), "{words:?}");
+        String::from_utf8(output.stdout).expect("the report is text")
+    };
+    let by_hand = "    cargo test writes such lines with: RUSTC_BOOTSTRAP=1 cargo test -- -Z unstable-options --format json\n";
+    let advice = |shown: &str| {
+        let first = "    only cargo test, cargo bench and cargo nextest run are given what makes them write JSON; this was: ";
+        format!("{first}{shown}\n{by_hand}")
+    };
+    let others: [(&[&str], _); 4] = [
+        (&["env", "A=1", "true"], "env"),
+        (&["sh", "-c", "exit 3"], "sh"),
+        (
+            &[
+                "sh",
+                "-c",
+                "echo \"error: test failed, to rerun pass \\`--lib\\`\"; exit 101",
+            ],
+            "sh",
+        ),
+        (
+            &[env!("CARGO"), "--version", "build"],
+            concat!(env!("CARGO"), " --version build"),
+        ),
+    ];
+    for (words, shown) in others {
+        let text = text_of(words);
+        assert_eq!(text.matches(&advice(shown)).count(), 1, "{text}");
+    }
+    let event = r#"echo '{ "type": "suite", "event": "started", "test_count": 0 }'"#;
+    let without: [&[&str]; 5] = [
+        &["sh", "-c", event],
+        &["/no/such/program"],
+        &[env!("CARGO"), "test"],
+        &[env!("CARGO"), "test", "--", "--format", "pretty"],
+        &[env!("CARGO"), "test", "--no-run"],
+    ];
+    for words in without {
+        let text = text_of(words);
+        assert!(
+            !text.contains("write JSON") && !text.contains("by itself"),
+            "{text}"
+        );
+    }
+}

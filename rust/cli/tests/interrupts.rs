@@ -376,8 +376,9 @@ fn a_command_starts_with_the_default_action_of_both_signals() {
         let output = command.output().expect("the program runs");
         let start = format!(
             "no line of the input is of a test run\n\
+    \x20   only cargo test, cargo bench and cargo nextest run are given what makes them write JSON; this was: sh\n\
     \x20   cargo test writes such lines with: RUSTC_BOOTSTRAP=1 cargo test -- -Z unstable-options --format json\n\
-    \x20   test-report -- cargo test does this by itself\nthe command ended by signal {number}\n"
+    the command ended by signal {number}\n"
         );
         let stdout = String::from_utf8_lossy(&output.stdout);
         assert!(stdout.starts_with(&start), "{stdout}");

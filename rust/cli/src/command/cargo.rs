@@ -73,7 +73,7 @@ impl<'a> CargoCommand<'a> {
 }
 
 /// Returns the index of cargo's subcommand, or `None` if the command is not cargo or has none.
-fn subcommand_at(words: &[OsString]) -> Option<usize> {
+pub fn subcommand_at(words: &[OsString]) -> Option<usize> {
     let name = Path::new(words.first()?).file_name()?;
     if name != "cargo" && name != "cargo.exe" {
         return None;
@@ -90,7 +90,7 @@ fn subcommand_at(words: &[OsString]) -> Option<usize> {
 }
 
 /// Returns what runs the tests, by the subcommand and the arguments after it. Returns `None` for another subcommand.
-fn runner_of(words: &[OsString]) -> Option<Runner> {
+pub fn runner_of(words: &[OsString]) -> Option<Runner> {
     let word = |at: usize| words.get(at).and_then(|word| word.to_str());
     match (word(0)?, word(1)) {
         ("test" | "t" | "bench", _) => Some(Runner::Harness),

@@ -1,5 +1,6 @@
 //! Runs the command whose tests are reported, for example `cargo test`.
 
+mod aliases;
 pub mod artifacts;
 pub mod cargo;
 mod conditions;

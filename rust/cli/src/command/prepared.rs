@@ -1,8 +1,10 @@
 //! Prepares a command: adds the arguments and the variables with which it writes JSON lines.
 
-use super::cargo::{CargoCommand, Runner, values_of};
+use super::aliases::without_aliases;
+use super::cargo::{CargoCommand, Runner, runner_of, subcommand_at, values_of};
 use super::settings::names_other_program;
 use super::stand_in::{ACCEPT_OPTIONS, AS_RUNNER, AS_RUSTDOC, BOOTSTRAP, missing_options};
+use crate::report::advice::Advice;
 use std::env;
 use std::ffi::OsString;
 use std::io::{self, IsTerminal};
@@ -37,6 +39,9 @@ pub struct Prepared {
     /// A message for the user.
     pub message: Option<&'static str>,
 
+    /// The advice for the case that the command writes no line of a harness.
+    pub advice: Advice,
+
     /// The path of the program that cargo starts in place of the test programs, if it starts one.
     pub stand_in: Option<String>,
 }
@@ -67,7 +72,7 @@ enum Acceptance {
 
 /// Returns a command with what makes it write JSON lines, if it is a cargo that runs tests.
 pub fn prepare(words: &[OsString]) -> Prepared {
-    let mut prepared = match CargoCommand::of(words) {
+    let mut prepared = match CargoCommand::of(&without_aliases(words)) {
         Some(cargo) if cargo.runner == Runner::Nextest => with_nextest(&cargo),
         Some(cargo) if writes_other_format(&cargo) => unchanged(words),
         Some(cargo) => with_harness(&cargo, &acceptance_for(&cargo)),
@@ -109,8 +114,21 @@ fn unchanged(words: &[OsString]) -> Prepared {
         build: None,
         variables: Vec::new(),
         message: None,
+        advice: advice_for(words),
         stand_in: None,
     }
+}
+
+/// Returns the advice for a command to which nothing is added. One by which cargo runs tests has what it needs, or its
+/// user wants something else.
+fn advice_for(words: &[OsString]) -> Advice {
+    let subcommand = subcommand_at(words);
+    if subcommand.is_some_and(|at| runner_of(&words[at..]).is_some()) {
+        return Advice::Nobody;
+    }
+    let shown = words.iter().take(subcommand.map_or(1, |at| at + 1));
+    let shown: Vec<_> = shown.map(|word| word.to_string_lossy()).collect();
+    Advice::OtherCommand(shown.join(" "))
 }
 
 /// Returns true if the user asks the harness for a format that is not JSON.
@@ -135,7 +153,10 @@ fn acceptance_for(cargo: &CargoCommand) -> Acceptance {
 /// Returns a `cargo test` or `cargo bench` whose harness writes JSON lines.
 fn with_harness(cargo: &CargoCommand, acceptance: &Acceptance) -> Prepared {
     let mut settings: Vec<OsString> = Vec::new();
-    let mut prepared = unchanged(&[]);
+    let mut prepared = Prepared {
+        advice: Advice::Nobody,
+        ..unchanged(&[])
+    };
     match acceptance {
         Acceptance::StandIn(path) => {
             for setting in settings_for(path) {
@@ -230,6 +251,7 @@ fn with_nextest(cargo: &CargoCommand) -> Prepared {
         build: None,
         variables: vec![(NEXTEST_JSON, "1".into())],
         message: None,
+        advice: Advice::Nobody,
         stand_in: None,
     }
 }

@@ -5,6 +5,7 @@ use super::conditions::holds;
 use super::stand_in::BOOTSTRAP;
 use serde_json::{Map, Value};
 use std::env;
+use std::ffi::OsString;
 use std::process::{Command, Output, Stdio};
 
 /// The variables that name a rustdoc.
@@ -23,7 +24,7 @@ pub fn names_other_program(cargo: &CargoCommand) -> bool {
     {
         return true;
     }
-    let settings = settings_of(cargo).unwrap_or_default();
+    let settings = settings_of(cargo.before, cargo.own).unwrap_or_default();
     if names_rustdoc(&settings) {
         return true;
     }
@@ -133,7 +134,7 @@ fn targets_of(cargo: &CargoCommand, settings: &Map<String, Value>) -> Vec<String
 
 /// Returns this machine's target, as cargo names it.
 fn host_of(cargo: &CargoCommand) -> Option<String> {
-    let output = answer_of(cargo, &["-vV"])?;
+    let output = answer_of(cargo.before, &["-vV"])?;
     let text = String::from_utf8(output.stdout).ok()?;
     let host = text.lines().find_map(|line| line.strip_prefix("host: "))?;
     Some(host.to_string())
@@ -142,27 +143,28 @@ fn host_of(cargo: &CargoCommand) -> Option<String> {
 /// Returns what rustc says of a target, one fact a line, or `None` if it fails. Cargo starts the rustc, as only cargo
 /// knows which one is meant: a path in its settings is relative to the folder of the file that has it.
 fn facts_of(cargo: &CargoCommand, target: &str) -> Option<String> {
-    let mut arguments = config_arguments(cargo);
+    let mut arguments = config_arguments(cargo.own);
     arguments.extend(["-Z", "unstable-options", "rustc"]);
     if let Some(manifest) = values_of(cargo.own, "--manifest-path").last() {
         arguments.extend(["--manifest-path", manifest]);
     }
     arguments.extend(["--print", "cfg", "--target", target]);
-    String::from_utf8(answer_of(cargo, &arguments)?.stdout).ok()
+    String::from_utf8(answer_of(cargo.before, &arguments)?.stdout).ok()
 }
 
 /// Returns the arguments that give cargo the settings after its subcommand.
-fn config_arguments<'a>(cargo: &CargoCommand<'a>) -> Vec<&'a str> {
-    let settings = values_of(cargo.own, "--config");
+fn config_arguments(own: &[OsString]) -> Vec<&str> {
+    let settings = values_of(own, "--config");
     settings
         .into_iter()
         .flat_map(|setting| ["--config", setting])
         .collect()
 }
 
-/// Returns the settings that cargo reads for a command, or `None` if cargo does not say them.
-fn settings_of(cargo: &CargoCommand) -> Option<Map<String, Value>> {
-    let mut arguments = config_arguments(cargo);
+/// Returns the settings that cargo reads for a command, or `None` if cargo does not say them. `before` is cargo with its
+/// arguments before the subcommand, and `own` are those after it.
+pub fn settings_of(before: &[OsString], own: &[OsString]) -> Option<Map<String, Value>> {
+    let mut arguments = config_arguments(own);
     // Stable versions of cargo have this command, but it may change.
     arguments.extend([
         "-Z",
@@ -172,13 +174,13 @@ fn settings_of(cargo: &CargoCommand) -> Option<Map<String, Value>> {
         "--format",
         "json",
     ]);
-    let output = answer_of(cargo, &arguments)?;
+    let output = answer_of(before, &arguments)?;
     serde_json::from_slice(&output.stdout).ok()
 }
 
-/// Runs the same cargo, with its own arguments, for something else. Returns `None` if that fails.
-fn answer_of(cargo: &CargoCommand, arguments: &[&str]) -> Option<Output> {
-    let (program, before) = cargo.before.split_first()?;
+/// Runs the same cargo, with its arguments before the subcommand, for something else. Returns `None` if that fails.
+fn answer_of(before: &[OsString], arguments: &[&str]) -> Option<Output> {
+    let (program, before) = before.split_first()?;
     let mut command = Command::new(program);
     command
         .args(before)

@@ -14,6 +14,7 @@
 //! `output` has the only types that standard output takes. `escape` shows control characters as escapes such as
 //! `\u{1b}`, and so does the type `ReportText` with what was not escaped before.
 
+pub mod advice;
 mod annotations;
 mod entry;
 mod escape;
@@ -39,6 +40,7 @@ mod values;
 mod whole_output;
 mod words;
 
+use crate::report::advice::Advice;
 use crate::report::annotations::{Annotation, push_failed_name, push_notice};
 use crate::report::entry::Entry;
 use crate::report::fault::Fault;
@@ -178,6 +180,13 @@ impl Report {
         self.run.on_command_started(names);
     }
 
+    /// Takes the advice for the case that no line of the command is one of a harness.
+    pub fn set_advice(&mut self, advice: Advice) {
+        if let Some(form) = &mut self.form {
+            form.set_advice(advice);
+        }
+    }
+
     /// Notes that the run is cancelled for this reason. Of the tests that become known from now on, the text shows as
     /// much as the levels of the layer show for this reason.
     pub fn cancel(&mut self, reason: CancelReason) {
@@ -229,10 +238,17 @@ impl Report {
         command: Option<CommandEnd>,
         output: &mut impl Write,
     ) -> Result<Ended, Fault> {
+        let has_events = self.run.has_suite() || self.run.tests_started() > 0;
+        let has_ended = matches!(
+            command,
+            Some(CommandEnd::Status { .. } | CommandEnd::Signal { .. })
+        );
         let Finished { notes, end, status } =
             self.run.finish(command, self.options.no_tests_pass)?;
         self.show_parts(notes, output)?;
-        let mut texts = self.form.map(|form| form.on_end(&end)).unwrap_or_default();
+        let form = self.form;
+        let texts = form.map(|form| form.on_end(&end, has_ended && !has_events));
+        let mut texts = texts.unwrap_or_default();
         if matches!(
             self.format,
             Format::Annotated { .. } | Format::Github { .. }

@@ -1,5 +1,6 @@
 //! The text for people, with a list of tests at its end.
 
+use crate::report::advice::Advice;
 use crate::report::entry::Entry;
 use crate::report::failure::ShownFailure;
 use crate::report::levels::{final_level, finished_output, has_line, skipped_output};
@@ -28,16 +29,13 @@ const LINE: usize = 128;
 /// The column in which the status of a test in the list ends.
 const STATUS_WIDTH: usize = 12;
 
-/// How lines of a harness are made, if there were none.
-const ADVICE: &str = "    \
-cargo test writes such lines with: RUSTC_BOOTSTRAP=1 cargo test -- -Z unstable-options --format json
-    test-report -- cargo test does this by itself
-";
-
 /// The text for people: the tests that the levels show, failed ones with why they failed, the problems, and at the end
 /// a summary and a list of tests.
 pub(crate) struct TextForm {
     options: Options,
+
+    /// The advice if there are no lines of a harness.
+    advice: Advice,
     list: List,
 }
 
@@ -99,8 +97,14 @@ impl TextForm {
     pub(crate) fn new(options: Options) -> TextForm {
         TextForm {
             options,
+            advice: Advice::Input,
             list: List::new(options),
         }
+    }
+
+    /// Takes the advice that a command needs.
+    pub(crate) fn set_advice(&mut self, advice: Advice) {
+        self.advice = advice;
     }
 
     /// Appends the text of an entry, and keeps what the list has of it.
@@ -115,9 +119,13 @@ impl TextForm {
         }
     }
 
-    /// Returns the end of the text: the summary, the list and the outcome.
-    pub(crate) fn on_end(self, end: &RunEnd) -> Vec<Text> {
+    /// Returns the end of the text: the summary, the list and the outcome. `lacks_events` is true if a command wrote no
+    /// line of a harness.
+    pub(crate) fn on_end(mut self, end: &RunEnd, lacks_events: bool) -> Vec<Text> {
         let mut head = Text::new(self.options.raw);
+        if lacks_events && matches!(self.advice, Advice::OtherCommand(_)) {
+            self.push_advice(&mut head);
+        }
         head.push(&format!("------------\n     Summary {}\n", summary(end)));
         let mut outcome = Text::new(self.options.raw);
         outcome.push(&format!("outcome {}\n", outcome_text(end.outcome)));
@@ -128,6 +136,26 @@ impl TextForm {
         texts.extend(list.slowest.into_tests().map(|(_, line)| line));
         texts.push(outcome);
         texts
+    }
+
+    /// Appends the line of a problem, under it what explains the problem, and how to get lines of a harness if there
+    /// were none.
+    fn push_problem(&mut self, problem: &Problem<'_>, text: &mut Text) {
+        text.push(&format!("{}\n", problem.line));
+        if let Some(why) = &problem.why {
+            text.push_indented(&why.shown(), MARGIN);
+        }
+        if problem.lacks_events {
+            self.push_advice(text);
+        }
+    }
+
+    /// Appends the advice. That about a command comes once.
+    fn push_advice(&mut self, text: &mut Text) {
+        text.push(&self.advice.text());
+        if let Advice::OtherCommand(_) = self.advice {
+            self.advice = Advice::Nobody;
+        }
     }
 
     /// Takes a test that failed.
@@ -204,7 +232,7 @@ impl TextForm {
 
     /// Takes a problem. The list has contradictions if it has failed tests, and among them.
     fn on_problem(&mut self, problem: &Problem<'_>, text: &mut Text) {
-        push_problem(problem, text);
+        self.push_problem(problem, text);
         let options = self.options;
         if problem.kind == CONTRADICTION && options.final_status_level >= FinalStatusLevel::Fail {
             let part = &mut self.list.failed;
@@ -275,18 +303,6 @@ fn push_output(test: &TestNote, margin: usize, options: Options, text: &mut Text
     if let Some(output) = passed_output(test) {
         let shown = without_returns(output);
         text.push_indented(&Limit::of_passed(options).shown(&shown), margin);
-    }
-}
-
-/// Appends the line of a problem, under it what explains the problem, and how to get lines of a harness if there were
-/// none.
-fn push_problem(problem: &Problem<'_>, text: &mut Text) {
-    text.push(&format!("{}\n", problem.line));
-    if let Some(why) = &problem.why {
-        text.push_indented(&why.shown(), MARGIN);
-    }
-    if problem.lacks_events {
-        text.push(ADVICE);
     }
 }
 

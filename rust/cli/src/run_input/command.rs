@@ -45,6 +45,7 @@ impl<W: Write> RunReader<'_, '_, W> {
         if let Some(message) = prepared.message {
             self.streams.line.borrow_mut().say(message);
         }
+        self.report.set_advice(prepared.advice.clone());
         let end = match &prepared.build {
             Some(build) => self.build_and_run(&prepared, build)?,
             None => {
