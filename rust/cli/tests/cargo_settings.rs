@@ -120,7 +120,7 @@ fn cargo_asks_the_rustc_of_the_same_settings_and_of_the_same_package() {
 fn the_subcommand_runs_the_cargo_that_started_it() {
     let folder = Folder::new("own-cargo");
     let cargo = folder.script("cargo", CARGO);
-    let output = command("cargo-test-report", &["test-report", "--", "-p", "money"])
+    let output = command("cargo-test-report", &["test-report", "-p", "money"])
         .env("CARGO", &cargo)
         .env("RUSTC_BOOTSTRAP", "1")
         .output()

@@ -1,5 +1,5 @@
-//! `cargo-test-report`: `cargo test-report [OPTIONS] [-- ARG..]` runs `cargo test ARG..`, and reports which tests
-//! failed, and why.
+//! `cargo-test-report`: `cargo test-report [OPTIONS] [ARG..]` runs `cargo test ARG..`, and reports which tests failed,
+//! and why.
 
 use deodarsieve_cli::report_program::{cargo_test_report_with, exit_code};
 use std::process::ExitCode;
