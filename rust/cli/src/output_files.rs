@@ -302,8 +302,12 @@ fn open_to_append(path: &str) -> io::Result<File> {
     OpenOptions::new().append(true).open(path)
 }
 
-/// Appends a text to the file at `path` in one piece, after an empty line if the file has a text.
+/// Appends a text to the file at `path` in one piece, after an empty line if the file has a text. Creates the file, and
+/// its folder, if there is none.
 fn append(path: &str, text: &str) -> io::Result<()> {
+    if let Some(folder) = Path::new(path).parent() {
+        fs::create_dir_all(folder)?;
+    }
     let mut file = OpenOptions::new().append(true).create(true).open(path)?;
     let is_empty = file.metadata()?.len() == 0;
     let piece = if is_empty {

@@ -33,7 +33,6 @@ impl ReplacedFile {
     ///
     /// Fails if the file cannot be replaced.
     pub fn check(&self) -> io::Result<()> {
-        fs::create_dir_all(self.folder())?;
         self.temporary().map(drop)
     }
 
@@ -53,9 +52,11 @@ impl ReplacedFile {
         Ok(())
     }
 
-    /// Creates an empty temporary file with the permissions of the old file.
+    /// Creates an empty temporary file with the permissions of the old file, and its folder if there is none. A command
+    /// such as `cargo clean` can have removed a folder that was there.
     fn temporary(&self) -> io::Result<TemporaryFile> {
         let name = self.path.file_name().ok_or(ErrorKind::InvalidInput)?;
+        fs::create_dir_all(self.folder())?;
         let temporary = TemporaryFile::create(self.folder(), name)?;
         if let Some(permissions) = &self.permissions {
             temporary.set_permissions(permissions)?;
@@ -83,13 +84,15 @@ struct TemporaryFile {
 impl TemporaryFile {
     /// Creates a folder with a random name in `folder`, and a file in it. If the name is taken, another one is tried,
     /// and nothing is followed that somebody else put there. In a folder of its own the file gets the permissions that
-    /// the system gives to new files, which nothing else says.
+    /// the system gives to new files, which nothing else says. No other user can open or replace the file before it is
+    /// renamed: until it has the permissions of the old file, it may have more.
     fn create(folder: &Path, name: &OsStr) -> io::Result<TemporaryFile> {
         let folder = Builder::new()
             .prefix(".test-report.")
             .suffix(".new")
             .rand_bytes(RANDOM_CHARACTERS)
             .tempdir_in(folder)?;
+        make_private(folder.path());
         let path = folder.path().join(name);
         Ok(TemporaryFile {
             file: File::create_new(&path)?,
@@ -107,6 +110,21 @@ impl TemporaryFile {
     }
 }
 
+/// Lets no other user into a folder. A file system that has the same permissions for all folders may refuse it.
+#[cfg(unix)]
+fn make_private(folder: &Path) {
+    use std::os::unix::fs::PermissionsExt;
+    let _ = fs::metadata(folder).and_then(|found| {
+        // What else the mode says stays: new files can get their group by it.
+        let own = found.permissions().mode() & !0o077;
+        fs::set_permissions(folder, Permissions::from_mode(own))
+    });
+}
+
+/// Does nothing: a new folder has the permissions of the folder that it is in.
+#[cfg(not(unix))]
+fn make_private(_folder: &Path) {}
+
 /// Writes the names in a folder to its device. Some systems cannot do that, and the new file is complete all the same.
 fn sync_folder(folder: &Path) {
     let _ = File::open(folder).and_then(|folder| folder.sync_all());
@@ -123,4 +141,23 @@ fn without_special_bits(permissions: Permissions) -> Permissions {
 #[cfg(not(unix))]
 fn without_special_bits(permissions: Permissions) -> Permissions {
     permissions
+}
+
+#[cfg(all(test, unix))]
+mod tests {
+    use super::*;
+    use std::os::unix::fs::PermissionsExt;
+
+    #[test]
+    fn no_other_user_can_open_or_replace_the_temporary_file() {
+        let folder = tempfile::tempdir().expect("a folder can be made");
+        let temporary = TemporaryFile::create(folder.path(), "report.xml".as_ref());
+        let path = temporary
+            .as_ref()
+            .expect("a file can be made")
+            .path
+            .parent();
+        let found = fs::metadata(path.expect("it is in a folder")).expect("it is there");
+        assert_eq!(found.permissions().mode() & 0o777, 0o700);
+    }
 }

@@ -76,6 +76,21 @@ fn a_folder_that_is_not_there_is_made() {
 }
 
 #[test]
+fn a_folder_that_the_command_removes_is_made_again() {
+    for option in OPTIONS {
+        let folder = Folder::new("removed");
+        let (target, saved) = (folder.file("target"), folder.file("run"));
+        fs::write(&saved, RUN).expect("the folder is there");
+        let script = format!("rm -r '{target}'; cat '{saved}'");
+        let file = folder.file("target/report");
+        let arguments = [option, &file, "--", "sh", "-c", &script];
+        assert_passed(&run("test-report", &arguments, b""), option);
+        let names = names_in(&folder.0);
+        assert_eq!(names, ["report", "run", "target"], "{option}");
+    }
+}
+
+#[test]
 fn a_file_that_cannot_be_written_ends_the_program_before_the_command_starts() {
     let folder = Folder::new("before");
     let (file, ran) = (folder.file("file"), folder.file("ran"));

@@ -145,7 +145,7 @@ impl<'a> Explanation<'a> {
             end,
         } = self;
         let first = start - before;
-        if start == slice || limit.holds(self.text()) {
+        if start == slice || limit.holds_shown(self.text()) {
             return Excerpt::of(&output[first..end]);
         }
         let front = start + two_lines(&output[start..slice]).len();

@@ -146,8 +146,8 @@ impl<'a> ShownFailure<'a> {
     }
 
     /// Returns what is shown of the output: all of it, or the explanation in it with lines before it, or ten lines if
-    /// there is neither an explanation nor a message. Of the prints before a crash only an explanation is shown. `above`
-    /// is what is shown above the output.
+    /// there is neither an explanation nor a message. Of the prints before a crash nothing is shown without an
+    /// explanation. `above` is what is shown above the output.
     fn excerpt(
         &self,
         output: OutputDisplay,
@@ -158,7 +158,7 @@ impl<'a> ShownFailure<'a> {
         let is_crash = crash_of(self.failure).is_some();
         let whole = all.trim_end();
         let is_whole = match output {
-            OutputDisplay::Auto => limit.holds(whole),
+            OutputDisplay::Auto => limit.holds_shown(whole),
             OutputDisplay::Short => false,
             OutputDisplay::Whole => true,
         };

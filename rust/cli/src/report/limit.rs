@@ -5,7 +5,7 @@ use crate::report::options::{Options, OutputDisplay};
 use std::borrow::Cow;
 
 /// A line with more bytes than this is long.
-const MOST_BYTES: usize = 512;
+const LONG_LINE: usize = 512;
 
 /// How many bytes at the front of a long line are shown.
 const FRONT: usize = 384;
@@ -64,7 +64,7 @@ impl LongLines {
     /// Returns true if not all of a line is shown.
     fn cuts(self, line: &str) -> bool {
         match self {
-            LongLines::Cut => line.len() > MOST_BYTES,
+            LongLines::Cut => line.len() > LONG_LINE,
             LongLines::Whole => false,
         }
     }
@@ -134,6 +134,11 @@ impl Limit {
         text.len() <= self.bytes
     }
 
+    /// Returns true if the lines of a text, as they are shown, have no more bytes than the limit.
+    pub(crate) fn holds_shown(self, text: &str) -> bool {
+        self.holds(text) || self.left_after(text.split('\n')).is_some()
+    }
+
     /// Returns how many bytes of the limit are left after these lines, or `None` if they are above it.
     pub(crate) fn left_after<'a>(self, mut lines: impl Iterator<Item = &'a str>) -> Option<usize> {
         // No line feed comes before the first line.
@@ -141,8 +146,8 @@ impl Limit {
         lines.try_fold(most, |left, line| left.checked_sub(self.size(line)))
     }
 
-    /// Returns how many bytes a text has up to the end of its last line that fits into `room` bytes. The lines come in
-    /// the order in which they are taken, and each counts with a line feed.
+    /// Returns how many bytes the first lines of a text have that fit into `room` bytes. The lines come in the order in
+    /// which they are taken. Each counts with a line feed, the last line of a text too.
     pub(crate) fn fitting<'a>(
         self,
         lines: impl Iterator<Item = &'a str>,
@@ -181,7 +186,7 @@ impl Limit {
     /// Returns the front and the end of a text above the limit, each of at least one line, or `None` if there is nothing
     /// to leave out between them.
     fn ends(self, text: &str) -> Option<(&str, &str)> {
-        if self.holds(text) || self.left_after(text.split('\n')).is_some() {
+        if self.holds_shown(text) {
             return None;
         }
         let half = self.bytes / 2 + 1;

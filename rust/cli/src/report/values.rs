@@ -29,16 +29,12 @@ use crate::report::model::{
 };
 use crate::report::numbers::Numbers;
 use crate::report::output::{Document, Template};
-use crate::report::whole_output::{MOST_BYTES_OF_TEXT, WholeOutput};
+use crate::report::whole_output::{MOST_BYTES_OF_SUMMARY, MOST_BYTES_OF_TEXT, WholeOutput};
 use crate::report::words::{seconds_text, suite_name};
 use crate::template::{Part, Value, push_item, push_section, push_text, render};
 
-/// The most bytes that the problems and the failed tests of a summary have together. GitHub shows nothing of a summary
-/// of more than 1 MiB. The first problem and the first failed test always fit, because the parts of both are cut.
-const MOST_BYTES: usize = 900_000;
-
 /// The most bytes that the problems of a summary have, so that there is room for failed tests.
-const MOST_BYTES_OF_PROBLEMS: usize = 450_000;
+const MOST_BYTES_OF_PROBLEMS: usize = MOST_BYTES_OF_SUMMARY / 2;
 
 /// The most bytes of the short reason of a failed test in a summary.
 const MOST_BYTES_OF_SHORT: usize = 4_096;
@@ -170,7 +166,7 @@ pub(crate) fn summary(model: &mut ReportModel, is_last: bool) -> Document {
     if more > 0 {
         problems.push(more_problems(more));
     }
-    room.0 += MOST_BYTES - MOST_BYTES_OF_PROBLEMS;
+    room.0 += MOST_BYTES_OF_SUMMARY - MOST_BYTES_OF_PROBLEMS;
     let failures = failures(model);
     let count = failures.len();
     let shown = failures.into_iter().map(|mut failure| {

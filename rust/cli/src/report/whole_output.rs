@@ -22,10 +22,14 @@ pub(crate) const PAGE_ROOM: OutputRoom = OutputRoom {
 /// The most bytes of a reason, of an output and of the line of a problem in a summary, before they are escaped.
 pub(crate) const MOST_BYTES_OF_TEXT: usize = 16_384;
 
-/// The room of a summary. After this number of bytes it has no failed tests either.
+/// The most bytes that the problems and the failed tests of a summary have together. GitHub shows nothing of a summary
+/// of more than 1 MiB. The first problem and the first failed test always fit, because the parts of both are cut.
+pub(crate) const MOST_BYTES_OF_SUMMARY: usize = 900_000;
+
+/// The room of a summary.
 pub(crate) const SUMMARY_ROOM: OutputRoom = OutputRoom {
     each: MOST_BYTES_OF_TEXT,
-    left: 900_000,
+    left: MOST_BYTES_OF_SUMMARY,
 };
 
 /// The whole output of a failed test. Its text is escaped.

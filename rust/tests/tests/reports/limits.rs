@@ -57,6 +57,27 @@ fn long_lines() {
 }
 
 #[test]
+fn both_values_are_shown_of_the_first_of_two_panics() {
+    let (left, right) = ("1".repeat(2_500), "2".repeat(2_500));
+    let first = format!(
+        "{}\nassertion failed\n  left: {left}\n right: {right}",
+        HEAD.replace("'a'", "'b'")
+    );
+    let output = format!("{first}\n{HEAD}\nthe thread panicked\n");
+    let (why, _) = shown_of(&output, OPTIONS);
+    let begins: Vec<&str> = why.iter().map(|line| &line[..10.min(line.len())]).collect();
+    let wanted = [
+        "thread 'b'",
+        "assertion ",
+        "  left: 11",
+        " right: 22",
+        "thread 'a'",
+        "the thread",
+    ];
+    assert_eq!(begins, wanted);
+}
+
+#[test]
 fn both_values_of_a_long_comparison_are_shown() {
     let value =
         |name: &str, number: u32| format!("{name}: [{}]", format!("{number}, ").repeat(4_000));
