@@ -165,7 +165,7 @@ mod tests {
 
     const SECOND: Duration = Duration::from_secs(1);
 
-    /// Returns a pipe of which a thread will read one end.
+    /// Returns both ends of a pipe: one for the thread that reads, and one to write to.
     fn boxed_pipe() -> (Box<dyn Read + Send>, PipeWriter) {
         let (reader, writer): (PipeReader, _) = pipe().expect("a pipe opens");
         (Box::new(reader), writer)

@@ -250,8 +250,8 @@ impl<'a, 'line, W: Write> RunReader<'a, 'line, W> {
         self.take_line(&line)
     }
 
-    /// Tells the report why the run is cancelled, if a signal has come. If Ctrl-C comes after SIGTERM, the report is told
-    /// both.
+    /// Tells the report why the run is cancelled, if a signal has come. Ctrl-C after SIGTERM is another reason, so the
+    /// report gets it, too.
     fn note_cancel(&mut self) {
         if let Some(reason) = self.interrupt.reason() {
             self.report.cancel(reason);

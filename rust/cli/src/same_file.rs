@@ -146,8 +146,8 @@ pub fn is_link(path: &Path) -> io::Result<bool> {
     Ok(found.is_some_and(|found| found.is_symlink()))
 }
 
-/// Returns the path that `path` stands for if it is a symbolic link, perhaps to a file that does not exist. Returns any
-/// other path as it is.
+/// Returns the path of the file that a symbolic link names, even if there is no such file. Returns a path that is no link
+/// unchanged.
 ///
 /// Fails if links lead to each other, or if the system does not say whether a path is a link.
 pub fn named_by_links(path: &Path) -> io::Result<PathBuf> {

@@ -133,7 +133,7 @@ fn the_subcommand_runs_the_cargo_that_started_it() {
 /// A rustc that is the one on the path.
 const RUSTC: &str = "#!/bin/sh\nexec rustc \"$@\"\n";
 
-/// A program that leaves a file behind.
+/// A rustc that must not be started. It creates a file, which shows that it was.
 const WRONG: &str = "#!/bin/sh\n: >wrong\nexit 1\n";
 
 /// Settings with a rustc in the folder above that of the file, and a runner for a condition.

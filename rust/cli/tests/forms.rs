@@ -174,7 +174,7 @@ fn whole_outputs_of_a_page_have_a_limit_together() {
     assert_eq!(page.matches("<span>a</span>").count(), 18);
 }
 
-/// The most bytes of a summary of which GitHub shows anything.
+/// GitHub shows nothing of a summary that has more bytes.
 const GITHUB: usize = 1_048_576;
 
 /// Returns the number before the words `more WHAT` in a summary, or 0 if it does not have them.

@@ -1,5 +1,5 @@
-//! The files of `--junit`, `--html`, `--markdown` and `--json`: what is done before anything runs, what is left behind,
-//! and which permissions they have.
+//! The files of `--junit`, `--html`, `--markdown` and `--json`: how they are tried before anything runs, which permissions
+//! they get, and that no temporary file stays.
 #![cfg(unix)]
 
 mod common;

@@ -316,7 +316,7 @@ fn the_place_of_a_documentation_test() {
     for (head, wanted) in [
         ("cart/src/lib.rs:3:1:", "cart/src/lib.rs:12:"),
         (
-            "/tmp/rustdoctestENSibD/doctest_bundle_2024.rs:14:1:",
+            "/t/rustdoctestENSibD/doctest_bundle_2024.rs:14:1:",
             "cart/src/lib.rs:12:",
         ),
         (
