@@ -6,9 +6,10 @@ use Rattle.std.proofs.lemmas.Slice.Eq.{bytes_eq-Decides}
 use Rattle.std.specs.Str.{bytes_eq}
 use Rattle.serde_json.specs.Data.{Data}
 use Rattle.test_report_events.proofs.Times.{one-time}
-use Rattle.test_report_events.specs.Event.{EventView, SuiteEndView, TestEndView, SuiteStarts, SuiteEnds, TestStarts, TestEnds, TestIsSlow, OtherLine, HeadingLine, CargoFails, Prints, DamagedLine, CommandStarts, CommandOver, Cancels}
-use Rattle.test_report_events.specs.Said.{EndsAs, HasEvent, HasName, HasType, HasVerdict, IsOther, ObjectSays, Says, text_of}
-use Rattle.test_report_events.specs.Table.{bench_result, is_text, object_said, suite_end_said, suite_said, test_end_said, test_said, typed_said}
+use Rattle.test_report_events.specs.Event.{EventView, SuiteEndView, TestEndView, SuiteStarts, SuiteEnds, TestStarts, TestEnds, TestIsSlow, OtherLine, HeadingLine, CargoFails, Prints, DamagedLine, CommandStarts, CommandOver, Cancels, AllEndEarly, ProgramDisagrees}
+use Rattle.test_report_events.specs.Program.{object_tells, said_by}
+use Rattle.test_report_events.specs.Said.{EndsAs, HasEvent, HasName, HasType, HasVerdict, IsBeside, IsOther, ObjectSays, Says, is_text, text_of}
+use Rattle.test_report_events.specs.Table.{bench_result, object_said, suite_end_said, suite_said, test_end_said, test_said, typed_said}
 use Rattle.test_report_events.specs.declared.event.TestResult.{TestResult}
 use Rattle.test_report_events.specs.declared.event.TestResult.TheVariants.{Ok, Failed, Ignored}
 
@@ -79,12 +80,14 @@ module _ (d : Data) (time : Option ℕ) where
   pub object-says : IfSome (object_said time d) (Says time d)
   unfolding typed_said
   object-says = each-some (Says time d) (typed_said time d) (text_of (codes "type") d) (λ w is.
-      row w (codes "report") _ _ (λ same. inl (read-as _ is same))
+      row w (codes "report") _ _ (λ same. inl (inl (read-as _ is same)))
+      (λ _. row w (codes "program") _ _ (λ same. inl (inr (inl (read-as _ is same))))
+      (λ _. row w (codes "command") _ _ (λ same. inl (inr (inr (read-as _ is same))))
       (λ _. row w (codes "suite") _ _ (λ same. each-some (Says time d) _ _ (suite-says (read-as _ is same)))
       (λ _. row w (codes "test") _ _ (λ same. each-some (Says time d) _ _
       (λ name named. each-some (Says time d) _ _ (test-says (read-as _ is same) name named)))
       (λ _. row w (codes "bench") _ _ (λ same. bench-says (read-as _ is same))
-      (λ _. tt)))))
+      (λ _. tt)))))))
 
   -- the end of a test is told by the table
   end-only : (e : TestEndView) → Says time d (TestEnds e) → test_end_said time d e.name e.result ≡ e
@@ -139,7 +142,9 @@ module _ (d : Data) (time : Option ℕ) where
 
   other-row : IsOther d → object_said time d ≡ Some OtherLine
   unfolding suite_said test_said typed_said
-  other-row (inl of) = at-some (typed_said time d) of
+  other-row (inl (inl of)) = at-some (typed_said time d) of
+  other-row (inl (inr (inl of))) = at-some (typed_said time d) of
+  other-row (inl (inr (inr of))) = at-some (typed_said time d) of
   other-row (inr (inl h)) = of-suite h.0 h.1.0 h.1.1
       ∙ (let w = h.1.0 in let o = h.1.2 in rw (unlike w _ o.0, unlike w _ o.1, unlike w _ o.2) refl)
   other-row (inr (inr h)) = of-test h.0 h.1.0 h.1.1 h.2.0 h.2.1
@@ -160,6 +165,28 @@ module _ (d : Data) (time : Option ℕ) where
   object-only (CommandStarts names) h = absurd h
   object-only (CommandOver end) h = absurd h
   object-only (Cancels reason) h = absurd h
+  object-only (AllEndEarly end) h = absurd h
+  object-only (ProgramDisagrees fault) h = absurd h
+
+  -- an object of a type that says nothing of a test still has an event
+  beside : IsBeside d → object_said time d ≡ None → ⊥
+  beside of none = let both = sym none ∙ other-row (inl of) in cc
+
+  -- so an object without an event says nothing of a program
+  untold : (o : Option (List ℕ)) → text_of (codes "type") d ≡ o → object_said time d ≡ None → object_tells d ≡ None
+  untold None is none = ap (option_and_then (said_by d)) is
+  untold (Some w) is none = ap (option_and_then (said_by d)) is
+      ∙ rw (
+        unlike w (codes "program") (λ same. beside (inr (inl (is ∙ ap (λ x. Some x) same))) none),
+        unlike w (codes "command") (λ same. beside (inr (inr (is ∙ ap (λ x. Some x) same))) none),
+      ) refl
+
+  pub tells-none : object_said time d ≡ None → object_tells d ≡ None
+  tells-none none = untold _ refl none
+
+  -- nor does the object of a test
+  pub test-tells : HasType d (codes "test") → object_tells d ≡ None
+  test-tells of = at-some (said_by d) of
 
 -- an object of a line says one event
 pub one-object : (line : List ℕ) (d : Data) (a b : EventView) → ObjectSays line d a → ObjectSays line d b → a ≡ b

@@ -1,23 +1,27 @@
 -- What is read of a line.
-use Rattle.std.proofs.Common.{◌≡◌, ◌∙◌, ◌∷◌, ◌++◌, ◌<◌, [], refl, sym, ap, arith, ℕ, List, Option, Some, None, inl, inr, subst, take_all, MatchOption, IfSome}
+use Rattle.std.proofs.Common.{◌≡◌, ◌∙◌, ◌∷◌, ◌++◌, ◌<◌, [], refl, sym, ap, arith, ℕ, List, Option, Some, None, inl, inr, subst, take_all, MatchOption, IfSome, option_map}
 use Rattle.std.proofs.Math.Logic.{⊎_elim}
 use Rattle.std.specs.Prelude.{drop, length, option_to_list, take}
 use Rattle.serde_json.specs.Data.{Data}
 use Rattle.serde_json.specs.View.{view}
 use Rattle.serde_json.specs.declared.value.Value.{Value}
 use Rattle.test_report_events.proofs.Escapes.{one-plain}
-use Rattle.test_report_events.proofs.Events.{object-only, object-says, one-object}
+use Rattle.test_report_events.proofs.Events.{object-only, object-says, one-object, test-tells}
 use Rattle.test_report_events.proofs.Headings.{one-cargo, one-heading, same-failure}
 use Rattle.test_report_events.proofs.LastAt.{one-last}
 use Rattle.test_report_events.proofs.Times.{one-time}
 use Rattle.test_report_events.specs.Cargo.{IsHeading, failure_of}
+use Rattle.test_report_events.specs.Content.{program_of}
 use Rattle.test_report_events.specs.Damage.{IsDamage}
-use Rattle.test_report_events.specs.Event.{CargoFails, EventView, HeadingLine, Prints}
+use Rattle.test_report_events.specs.Event.{CargoFails, EventView, HeadingLine, Prints, TestStarts}
 use Rattle.test_report_events.specs.Line.{EndSays, EndsWithFailure, EndsWithHeading, EventSays, HeadingBegins, Holds, HoldsEvent, IsJson, IsLastAt, IsPrint, LineSays, ObjectBegins, RestOf, TextSays}
 use Rattle.test_report_events.specs.Plain.{IsPlain, line_text}
+use Rattle.test_report_events.specs.Program.{ProgramLineView, TellsProgram, object_tells, program_view}
 use Rattle.test_report_events.specs.Said.{IsTime, ObjectSays, Says}
 use Rattle.test_report_events.specs.Table.{object_said}
 use Rattle.test_report_events.specs.Time.{without_spaces}
+use Rattle.test_report_events.specs.declared.line.Line.{Line}
+use Rattle.test_report_events.specs.declared.program.ProgramLine.{ProgramLine}
 
 -- this was read of a line: the value that it holds and where it begins, if it holds one
 abbrev pub Reads : List ℕ → Option (ℕ × Value) → Type 0
@@ -78,6 +82,20 @@ no_value line none at e h = none at h.0 h.1
 pub text_says : (line : List ℕ) (before : Option EventView) (e : EventView) → ((at : ℕ) (d : Data) → ¬ Holds line at d)
     → (plain : List ℕ) × IsPlain line plain × TextSays line plain before e → EventSays line before e
 text_says line before e none says = inr (no_value line none, inr (none, says))
+
+-- what a line says of a program is what its value says
+pub tells_held : (line : List ℕ) (at : ℕ) (d : Data) (found : Option ProgramLineView) → Holds line at d → found ≡ object_tells d → TellsProgram line found
+tells_held line at d None holds is = λ k e h. ap object_tells (holds-one line k at e d h holds).1 ∙ sym is
+tells_held line at d (Some p) holds is = (at, d, holds, sym is)
+
+-- and nothing, if it starts a test
+pub start_tells : (line : List ℕ) (at : ℕ) (name : List ℕ) → HoldsEvent line at (TestStarts name) → TellsProgram line None
+start_tells line at name h = tells_held line at h.0 None h.1 (sym (test-tells h.0 h.2.0 h.2.2.0))
+
+-- what was kept of it
+pub tells_kept : (line : List ℕ) (kept : Line) (program : Option ProgramLine) → TellsProgram line (option_map program_view program) → kept.program ≡ program
+    → TellsProgram line (program_of kept)
+tells_kept line kept program tells is = subst (λ p. TellsProgram line (option_map program_view p)) (sym is) tells
 
 -- the events of a line
 pub whole_line : (line : List ℕ) (events : List EventView) (e : EventView) → HoldsEvent line 0 e → events ≡ e ∷ [] → LineSays line events

@@ -2,6 +2,7 @@
 use Rattle.std.specs.Prelude.{◌++◌, ◌∷◌, ℕ, List, Option, Some, None, codes, option_map, option_to_list}
 use Rattle.std.specs.String.{string_bytes}
 use Rattle.test_report_events.specs.Event.{CargoFails, DamagedLine, EventView, HeadingLine, OtherLine, Prints, SuiteEndView, SuiteEnds, SuiteStarts, TestEndView, TestEnds, TestIsSlow, TestStarts, key_text}
+use Rattle.test_report_events.specs.Program.{ProgramLineView, program_view}
 use Rattle.test_report_events.specs.declared.cargo.CargoLine.{CargoLine}
 use Rattle.test_report_events.specs.declared.cargo.CargoLine.TheVariants as cargo
 use Rattle.test_report_events.specs.declared.cargo.Heading.{Heading}
@@ -89,3 +90,7 @@ events_of line = option_to_list (before_of line) ++ event_of line ∷ option_to_
 -- the number of bytes at the start of a line that was read that are no event
 abbrev pub rest_of : Line → Option ℕ
 rest_of line = line.rest
+
+-- what a line that was read says of a program or of the command
+abbrev pub program_of : Line → Option ProgramLineView
+program_of line = option_map program_view line.program

@@ -9,6 +9,7 @@ use Rattle.test_report_events.specs.declared.event.SuiteEnd.{SuiteEnd}
 use Rattle.test_report_events.specs.declared.event.SuiteKey.{SuiteKey}
 use Rattle.test_report_events.specs.declared.event.TestDetails.{TestDetails}
 use Rattle.test_report_events.specs.declared.event.TestResult.{TestResult}
+use Rattle.test_report_events.specs.declared.program.ProgramEnd.{ProgramEnd}
 
 -- the last line of a suite
 pub record SuiteEndView : Type 0 where
@@ -45,12 +46,34 @@ pub data CommandView : Type 0 where
   BySignal : ℕ → CommandView
   -- it ended with this exit status
   WithStatus : ℕ → CommandView
+  -- it ended with this exit status, which is not 0, and said why in these words
+  WithError : ℕ → List ℕ → CommandView
+
+-- what is known when all that is open ends early: how its program ended, if somebody knows, and the names of the threads that standard error says
+-- overflowed their stack or panicked
+pub record EarlyEndView : Type 0 where
+  pub end : Option ProgramEnd
+  pub overflowed : List (List ℕ)
+  pub panicked : List (List ℕ)
+
+-- why the lines of programs disagree
+pub data ProgramFaultView : Type 0 where
+  -- the program with this name ended so, and nothing says why
+  EndsUnexplained : List ℕ → ProgramEnd → ProgramFaultView
+  -- the program with this name ended with status 0, and ran no test
+  RunsNoTest : List ℕ → ProgramFaultView
+  -- no line says how the program with this name ended
+  NeverEnds : List ℕ → ProgramFaultView
+  -- a program ended so while none ran
+  EndsUnstarted : ProgramEnd → ProgramFaultView
+  -- no line says how the command ended
+  IsCutOff : ProgramFaultView
 
 -- the name of each suite, by the path of its binary
 abbrev pub SuiteNames : Type 0
 SuiteNames = List (List ℕ × List ℕ)
 
--- what a line says, or what is known of the run from elsewhere. No line says the last three
+-- what a line says, or what is known of the run from elsewhere. No line says the last five
 pub data EventView : Type 0 where
   -- a suite with this key and number of tests starts
   SuiteStarts : Option (List ℕ) → Option ℕ → EventView
@@ -78,6 +101,10 @@ pub data EventView : Type 0 where
   CommandOver : CommandView → EventView
   -- the run is cancelled for this reason
   Cancels : CancelReason → EventView
+  -- all open suites end early, and the tests outside of a suite
+  AllEndEarly : EarlyEndView → EventView
+  -- the lines of programs disagree
+  ProgramDisagrees : ProgramFaultView → EventView
 
 -- the text of a key: `CRATE::BINARY`, and `@stress-N` if there is an index
 abbrev pub key_text : List ℕ → List ℕ → Option ℕ → List ℕ

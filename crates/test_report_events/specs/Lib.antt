@@ -6,6 +6,7 @@ pub mod Laws
 pub mod Line
 pub mod Members
 pub mod Plain
+pub mod Program
 pub mod Said
 pub mod Started
 pub mod Table

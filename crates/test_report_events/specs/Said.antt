@@ -1,8 +1,9 @@
 -- What the members of a JSON object say of a test run.
 use Rattle.std.specs.Prelude.{◌≡◌, ◌≢◌, ◌⊎◌, ℕ, List, [], ◌∷◌, codes, Bool, true, false, Option, Some, None, IsSome, MatchOption, nat_le, option_and_then, if◌then◌else◌}
+use Rattle.std.specs.Str.{bytes_eq}
 use Rattle.serde_json.specs.Data.{Data}
 use Rattle.serde_json.specs.Find.{as_number, as_str, as_u64, get}
-use Rattle.test_report_events.specs.Event.{EventView, SuiteStarts, SuiteEnds, TestStarts, TestEnds, TestIsSlow, OtherLine, HeadingLine, CargoFails, Prints, DamagedLine, CommandStarts, CommandOver, Cancels, key_text}
+use Rattle.test_report_events.specs.Event.{EventView, SuiteStarts, SuiteEnds, TestStarts, TestEnds, TestIsSlow, OtherLine, HeadingLine, CargoFails, Prints, DamagedLine, CommandStarts, CommandOver, Cancels, AllEndEarly, ProgramDisagrees, key_text}
 use Rattle.test_report_events.specs.Time.{GivesTime}
 use Rattle.test_report_events.specs.declared.event.TestResult.{TestResult}
 use Rattle.test_report_events.specs.declared.event.TestResult.TheVariants.{Ok, Failed, Ignored}
@@ -10,6 +11,11 @@ use Rattle.test_report_events.specs.declared.event.TestResult.TheVariants.{Ok, F
 -- the text of a member
 abbrev pub text_of : List ℕ → Data → Option (List ℕ)
 text_of key d = option_and_then as_str (get key d)
+
+-- there is a text, and it is this one
+abbrev pub is_text : Option (List ℕ) → List ℕ → Bool
+is_text None word = false
+is_text (Some text) word = bytes_eq text word
 
 -- a text, unless it is empty
 abbrev pub unless_empty : List ℕ → Option (List ℕ)
@@ -78,10 +84,14 @@ abbrev pub IsOtherOfTest : List ℕ → Type 0
 IsOtherOfTest word =
     (word ≢ codes "started") × (word ≢ codes "ok") × (word ≢ codes "failed") × (word ≢ codes "ignored") × (word ≢ codes "timeout")
 
--- another line of a harness: a report, or an event of a suite or a test that is not in the table
+-- the object is of a type that says nothing of a test or a suite: a report, or what becomes of a program or of the command
+abbrev pub IsBeside : Data → Type 0
+IsBeside d = HasType d (codes "report") ⊎ (HasType d (codes "program") ⊎ HasType d (codes "command"))
+
+-- another line of a harness: one of another type, or an event of a suite or a test that is not in the table
 abbrev pub IsOther : Data → Type 0
 IsOther d =
-    HasType d (codes "report")
+    IsBeside d
     ⊎ ((HasType d (codes "suite") × ((word : List ℕ) × HasEvent d word × IsOtherOfSuite word))
     ⊎ (HasType d (codes "test") × ((name : List ℕ) × HasName d name) × ((word : List ℕ) × HasEvent d word × IsOtherOfTest word)))
 
@@ -115,6 +125,8 @@ Says time d (DamagedLine text) = ⊥
 Says time d (CommandStarts names) = ⊥
 Says time d (CommandOver end) = ⊥
 Says time d (Cancels reason) = ⊥
+Says time d (AllEndEarly end) = ⊥
+Says time d (ProgramDisagrees fault) = ⊥
 
 -- what an object says that was read from this line
 abbrev pub ObjectSays : List ℕ → Data → EventView → Type 0

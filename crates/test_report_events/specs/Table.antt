@@ -8,7 +8,7 @@ use Rattle.test_report_events.specs.Cargo.{CargoSays}
 use Rattle.test_report_events.specs.Content.{cargo_event}
 use Rattle.test_report_events.specs.Event.{EventView, Prints, SuiteEndView, TestEndView, SuiteStarts, SuiteEnds, TestStarts, TestEnds, TestIsSlow, OtherLine}
 use Rattle.test_report_events.specs.Line.{EndSays, IsJson, IsLastAt, ObjectBegins}
-use Rattle.test_report_events.specs.Said.{count_of, key_of, text_of, words_of}
+use Rattle.test_report_events.specs.Said.{count_of, is_text, key_of, text_of, words_of}
 use Rattle.test_report_events.specs.Time.{without_spaces}
 use Rattle.test_report_events.specs.declared.event.TestResult.{TestResult}
 use Rattle.test_report_events.specs.declared.event.TestResult.TheVariants.{Ok, Failed, Ignored}
@@ -55,11 +55,6 @@ test_said time d name event =
     else if bytes_eq event (codes "timeout") then Some (TestIsSlow name)
     else Some OtherLine
 
--- there is a text, and it is this one
-abbrev pub is_text : Option (List ℕ) → List ℕ → Bool
-is_text None word = false
-is_text (Some text) word = bytes_eq text word
-
 -- how a benchmark ended
 unfoldable pub bench_result : Data → TestResult
 bench_result d = if is_text (text_of (codes "event") d) (codes "failed") then Failed else Ok
@@ -68,6 +63,8 @@ bench_result d = if is_text (text_of (codes "event") d) (codes "failed") then Fa
 unfoldable pub typed_said : Option ℕ → Data → List ℕ → Option EventView
 typed_said time d word =
     if bytes_eq word (codes "report") then Some OtherLine
+    else if bytes_eq word (codes "program") then Some OtherLine
+    else if bytes_eq word (codes "command") then Some OtherLine
     else if bytes_eq word (codes "suite") then option_and_then (suite_said time d) (text_of (codes "event") d)
     else if bytes_eq word (codes "test") then
     option_and_then (λ name. option_and_then (test_said time d name) (text_of (codes "event") d)) (text_of (codes "name") d)

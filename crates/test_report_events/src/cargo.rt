@@ -207,7 +207,7 @@ fn binary_at(path: &str) -> Option<&str>
 }
 
 /// Returns the file name of a path.
-fn file_name(path: &str) -> &str
+pub(crate) fn file_name(path: &str) -> &str
     ensures { result.now ≡ spec.file_name path.now }
 {
     match path.rsplit_once(['/', '\\']) {

@@ -7,6 +7,7 @@ ghost use Rattle.serde_json.specs.View.{view};
 ghost use Rattle.test_report_events.specs.Content as kept;
 ghost use Rattle.test_report_events.specs.Event.{EventView, event_view};
 ghost use Rattle.test_report_events.specs.Line.{EventSays, Holds, HoldsEvent, IsJson, IsPrint, LineSays, RestOf};
+ghost use Rattle.test_report_events.specs.Program.{TellsProgram, program_view};
 ghost use Rattle.test_report_events.specs.Table.{FindsLastObject, IsValueOf};
 
 use crate::content::Content;
@@ -14,6 +15,7 @@ use crate::damage::damage_of;
 use crate::event::Event;
 use crate::members::Members;
 use crate::plain::{line_text, plain_text};
+use crate::program::ProgramLine;
 use crate::started::started_test;
 use crate::text::text_contents;
 use bstr::ByteSlice;
@@ -34,6 +36,9 @@ pub struct Line {
 
     /// The number of bytes at the start of the line that are no event, unless it is wholly an event.
     rest: Option<usize>,
+
+    /// What the line says of a program or of the command, if it does.
+    program: Option<ProgramLine>,
 }
 
 impl Line {
@@ -46,9 +51,10 @@ impl Line {
     pub fn read(alloc: Global, bytes: &[u8]) -> Result<Line, AllocError>
         ensures says { IfOk result (λ line. LineSays bytes.now (kept.events_of line)) }
         ensures rest { IfOk result (λ line. RestOf bytes.now (kept.rest_of line)) }
+        ensures tells { IfOk result (λ line. TellsProgram bytes.now (kept.program_of line)) }
     {
         if let Some(name) = started_test(bytes) {
-            return event_line(alloc, bytes, 0, Event::TestStarted { name });
+            return event_line(alloc, bytes, 0, Event::TestStarted { name }, None);
         }
         match value_in(alloc, bytes)? {
             Some((at, value)) => value_line(alloc, bytes, at, value),
@@ -87,13 +93,28 @@ impl Line {
     {
         self.rest
     }
+
+    /// Returns what the line says of a program or of the command, if it does. Its event is `Event::Other`: whether
+    /// such a line counts depends on where it is read.
+    pub fn program(&self) -> Option<&ProgramLine>
+        ensures { option_map (λ line. program_view line.now) result ≡ kept.program_of self.now }
+    {
+        self.program.as_ref()
+    }
 }
 
-/// Returns the line whose event begins at an offset.
-fn event_line(alloc: Global, bytes: &[u8], at: usize, event: Event<'_>) -> Result<Line, AllocError>
+/// Returns the line whose event begins at an offset, and which says this of a program.
+fn event_line(
+    alloc: Global,
+    bytes: &[u8],
+    at: usize,
+    event: Event<'_>,
+    program: Option<ProgramLine>,
+) -> Result<Line, AllocError>
     requires { HoldsEvent bytes.now at (event_view event) }
     ensures says { IfOk result (λ line. LineSays bytes.now (kept.events_of line)) }
     ensures rest { IfOk result (λ line. RestOf bytes.now (kept.rest_of line)) }
+    ensures tells { IfOk result (λ line. line.program ≡ program) }
 {
     let content = Content::of(alloc, event)?;
     if at == 0 {
@@ -102,6 +123,7 @@ fn event_line(alloc: Global, bytes: &[u8], at: usize, event: Event<'_>) -> Resul
             content,
             damage: None,
             rest: None,
+            program,
         });
     }
     let damage = damage_of(alloc, &bytes[..at])?;
@@ -110,10 +132,11 @@ fn event_line(alloc: Global, bytes: &[u8], at: usize, event: Event<'_>) -> Resul
         content,
         damage,
         rest: Some(at),
+        program,
     })
 }
 
-/// Returns the line with this content, which is no event of a test harness.
+/// Returns the line with this content, which is no event of a test harness, and so says nothing of a program.
 fn other_line(
     alloc: Global,
     bytes: &[u8],
@@ -124,6 +147,7 @@ fn other_line(
     requires says { EventSays bytes.now (option_map kept.content_event before) (kept.content_event content) }
     ensures says { IfOk result (λ line. LineSays bytes.now (kept.events_of line)) }
     ensures rest { IfOk result (λ line. RestOf bytes.now (kept.rest_of line)) }
+    ensures tells { IfOk result (λ line. line.program ≡ None) }
 {
     let damage = damage_of(alloc, bytes)?;
     Ok(Line {
@@ -131,6 +155,7 @@ fn other_line(
         content,
         damage,
         rest: Some(bytes.len()),
+        program: None,
     })
 }
 
@@ -202,11 +227,15 @@ fn value_line(alloc: Global, bytes: &[u8], at: usize, value: Value) -> Result<Li
     requires { Holds bytes.now at (view value) }
     ensures says { IfOk result (λ line. LineSays bytes.now (kept.events_of line)) }
     ensures rest { IfOk result (λ line. RestOf bytes.now (kept.rest_of line)) }
+    ensures tells { IfOk result (λ line. TellsProgram bytes.now (kept.program_of line)) }
 {
     let members = Members::of(&value);
     let time = members.time_in(bytes);
     match members.event(time) {
-        Some(event) => event_line(alloc, bytes, at, event),
+        Some(event) => {
+            let program = ProgramLine::of(alloc, &value)?;
+            event_line(alloc, bytes, at, event, program)
+        }
         None => other_line(alloc, bytes, None, print_content(alloc, bytes)?),
     }
 }
@@ -225,6 +254,7 @@ fn text_line(alloc: Global, bytes: &[u8]) -> Result<Line, AllocError>
     requires { (at : ℕ) (d : Data) → ¬ Holds bytes.now at d }
     ensures says { IfOk result (λ line. LineSays bytes.now (kept.events_of line)) }
     ensures rest { IfOk result (λ line. RestOf bytes.now (kept.rest_of line)) }
+    ensures tells { IfOk result (λ line. TellsProgram bytes.now (kept.program_of line)) }
 {
     let (before, content) = text_contents(alloc, bytes)?;
     other_line(alloc, bytes, before, content)

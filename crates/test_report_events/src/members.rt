@@ -40,14 +40,14 @@ fn keep<'a>(kept: &mut Option<&'a Value>, word: &str, key: &str, value: &'a Valu
 }
 
 /// Returns the text of a member.
-fn text_of<'a>(value: &'a Value, key: &str) -> Option<&'a str>
+pub(crate) fn text_of<'a>(value: &'a Value, key: &str) -> Option<&'a str>
     ensures { option_map (λ text. text.now) result ≡ said.text_of key.now (view value.now) }
 {
     value.get(key).and_then(Value::as_str)
 }
 
 /// Returns the number of a member.
-fn number_of(value: &Value, key: &str) -> Option<u64>
+pub(crate) fn number_of(value: &Value, key: &str) -> Option<u64>
     ensures { result ≡ said.number_of key.now (view value.now) }
 {
     value.get(key).and_then(Value::as_u64)
@@ -229,7 +229,7 @@ impl<'a> Members<'a> {
         ensures { option_map event_view result ≡ typed_said time (view self.now.object.now) kind.now }
     {
         match kind {
-            "report" => Some(Event::Other),
+            "report" | "program" | "command" => Some(Event::Other),
             "suite" => suite_event_of(self.object, time, self.event_word()?),
             "test" => self.test_event(time, self.name()?, self.event_word()?),
             "bench" => {

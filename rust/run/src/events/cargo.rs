@@ -143,7 +143,7 @@ fn binary_at(path: &str) -> Option<&str> {
 }
 
 /// Returns the file name of a path.
-fn file_name(path: &str) -> &str {
+pub(crate) fn file_name(path: &str) -> &str {
     match path.rsplit_once(['/', '\\']) {
         Some((_, file)) => file,
         None => path,

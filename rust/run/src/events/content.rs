@@ -263,6 +263,6 @@ impl TestEnd {
 }
 
 /// Copies a text that may be absent.
-fn owned(text: Option<&str>) -> Option<String> {
+pub(crate) fn owned(text: Option<&str>) -> Option<String> {
     text.map(String::from)
 }

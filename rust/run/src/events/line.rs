@@ -6,6 +6,7 @@ use crate::events::damage::damage_of;
 use crate::events::event::Event;
 use crate::events::members::Members;
 use crate::events::plain::{line_text, plain_text};
+use crate::events::program::ProgramLine;
 use crate::events::started::started_test;
 use crate::events::text::text_contents;
 use bstr::ByteSlice;
@@ -25,6 +26,9 @@ pub struct Line {
 
     /// The number of bytes at the start of the line that are no event, unless it is wholly an event.
     rest: Option<usize>,
+
+    /// What the line says of a program or of the command, if it does.
+    program: Option<ProgramLine>,
 }
 
 impl Line {
@@ -36,7 +40,7 @@ impl Line {
     /// cargo are found in the same way at the end of a line.
     pub fn read(bytes: &[u8]) -> Line {
         if let Some(name) = started_test(bytes) {
-            return event_line(bytes, 0, Event::TestStarted { name });
+            return event_line(bytes, 0, Event::TestStarted { name }, None);
         }
         match value_in(bytes) {
             Some((at, value)) => value_line(bytes, at, value),
@@ -67,10 +71,16 @@ impl Line {
     pub fn rest(&self) -> Option<usize> {
         self.rest
     }
+
+    /// Returns what the line says of a program or of the command, if it does. Its event is `Event::Other`: whether
+    /// such a line counts depends on where it is read.
+    pub fn program(&self) -> Option<&ProgramLine> {
+        self.program.as_ref()
+    }
 }
 
-/// Returns the line whose event begins at an offset.
-fn event_line(bytes: &[u8], at: usize, event: Event<'_>) -> Line {
+/// Returns the line whose event begins at an offset, and which says this of a program.
+fn event_line(bytes: &[u8], at: usize, event: Event<'_>, program: Option<ProgramLine>) -> Line {
     let content = Content::of(event);
     if at == 0 {
         return Line {
@@ -78,6 +88,7 @@ fn event_line(bytes: &[u8], at: usize, event: Event<'_>) -> Line {
             content,
             damage: None,
             rest: None,
+            program,
         };
     }
     let damage = damage_of(&bytes[..at]);
@@ -86,10 +97,11 @@ fn event_line(bytes: &[u8], at: usize, event: Event<'_>) -> Line {
         content,
         damage,
         rest: Some(at),
+        program,
     }
 }
 
-/// Returns the line with this content, which is no event of a test harness.
+/// Returns the line with this content, which is no event of a test harness, and so says nothing of a program.
 fn other_line(bytes: &[u8], before: Option<Content>, content: Content) -> Line {
     let damage = damage_of(bytes);
     Line {
@@ -97,6 +109,7 @@ fn other_line(bytes: &[u8], before: Option<Content>, content: Content) -> Line {
         content,
         damage,
         rest: Some(bytes.len()),
+        program: None,
     }
 }
 
@@ -146,7 +159,10 @@ fn value_line(bytes: &[u8], at: usize, value: Value) -> Line {
     let members = Members::of(&value);
     let time = members.time_in(bytes);
     match members.event(time) {
-        Some(event) => event_line(bytes, at, event),
+        Some(event) => {
+            let program = ProgramLine::of(&value);
+            event_line(bytes, at, event, program)
+        }
         None => other_line(bytes, None, print_content(bytes)),
     }
 }

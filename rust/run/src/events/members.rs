@@ -29,12 +29,12 @@ fn keep<'a>(kept: &mut Option<&'a Value>, word: &str, key: &str, value: &'a Valu
 }
 
 /// Returns the text of a member.
-fn text_of<'a>(value: &'a Value, key: &str) -> Option<&'a str> {
+pub(crate) fn text_of<'a>(value: &'a Value, key: &str) -> Option<&'a str> {
     value.get(key).and_then(Value::as_str)
 }
 
 /// Returns the number of a member.
-fn number_of(value: &Value, key: &str) -> Option<u64> {
+pub(crate) fn number_of(value: &Value, key: &str) -> Option<u64> {
     value.get(key).and_then(Value::as_u64)
 }
 
@@ -157,7 +157,7 @@ impl<'a> Members<'a> {
     /// Returns the event of an object of a type.
     fn typed_event(&self, time: Option<u64>, kind: &str) -> Option<Event<'a>> {
         match kind {
-            "report" => Some(Event::Other),
+            "report" | "program" | "command" => Some(Event::Other),
             "suite" => suite_event_of(self.object, time, self.event_word()?),
             "test" => self.test_event(time, self.name()?, self.event_word()?),
             "bench" => {

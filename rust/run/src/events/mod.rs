@@ -4,6 +4,8 @@
 //! Other lines of a test harness give `Event::Other`. Every remaining line, such as what a test printed,
 //! gives `Event::Print`. Text that was printed without a line feed in front of a line of cargo is a print
 //! before its event. Text that is no event and says that a test or a suite failed gives `Event::Damaged`.
+//! A line that says what becomes of a test program or of the command gives `Event::Other`, and `Line::program`
+//! returns what it says.
 //!
 //! The lines are those of Rust's test harness (`--format json`), of cargo nextest (`--message-format
 //! libtest-json`) and of cargo. Any bytes are accepted, and they need not be UTF-8.
@@ -33,6 +35,7 @@ pub mod event;
 pub mod line;
 mod members;
 mod plain;
+pub mod program;
 mod started;
 mod text;
 pub mod time;

@@ -1,11 +1,13 @@
 -- The event of the object, or a print.
-use Rattle.std.proofs.Common.{◌≡◌, ◌∙◌, ap, option_map, subst, sym}
+use Rattle.std.proofs.Common.{◌≡◌, ◌∙◌, None, ap, option_map, subst, sym}
+use Rattle.std.proofs.lemmas.Result.{IfOk-weaker}
 use Rattle.serde_json.specs.View.{view}
 use Rattle.test_report_events.specs.Content.{content_event}
 use Rattle.test_report_events.specs.Event.{event_view}
 use Rattle.test_report_events.specs.Said.{IsTime}
 use Rattle.test_report_events.specs.Table.{object_said}
-use Rattle.test_report_events.proofs.Readings.{object_is, object_none, value_print}
+use Rattle.test_report_events.proofs.Events.{tells-none}
+use Rattle.test_report_events.proofs.Readings.{object_is, object_none, tells_held, tells_kept, value_print}
 use Rattle.test_report_events.proofs.line.value_line.Goals as goal
 
 pub event_line-requires : goal.event_line-requires
@@ -35,3 +37,21 @@ other_line-requires-clause-says c =
     let none = object_none c.args.bytes.now c.args.at d time c.requires
     (subst (λ x. IsTime c.args.bytes.now x time) same c.time_in-time.ensures) (sym said ∙ ap (option_map event_view) c.in-None.is) in
     value_print c.args.bytes.now c.args.at d (content_event c.in_ok-print_content-in-None.field-0) c.requires none c.in_ok-print_content-in-None.ensures
+
+pub returns-in-Some-clause-tells : goal.returns-in-Some-clause-tells
+returns-in-Some-clause-tells c =
+    IfOk-weaker c.event_line.result _ _
+    (λ line. tells_kept c.args.bytes.now line c.in_ok-program-in-Some.program
+    (tells_held c.args.bytes.now c.args.at (view c.args.value) _ c.requires c.in_ok-program-in-Some.ensures))
+    c.event_line.ensures.tells
+
+pub returns-clause-tells : goal.returns-clause-tells
+returns-clause-tells c =
+    let d = view c.args.value in
+    let same : view c.of-members.result.object.now ≡ d = ap view c.of-members.ensures.object in
+    let time = c.time_in-time.result in
+    let said : option_map event_view c.event.result ≡ object_said time d = c.event.ensures ∙ ap (object_said time) same in
+    IfOk-weaker c.other_line.result _ _
+    (λ line. tells_kept c.args.bytes.now line None
+    (tells_held c.args.bytes.now c.args.at d None c.requires (sym (tells-none d time (sym said ∙ ap (option_map event_view) c.in-None.is)))))
+    c.other_line.ensures.tells

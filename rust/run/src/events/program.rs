@@ -1,0 +1,162 @@
+// Made by tools/erase from crates/test_report_events/src/program.rt. Do not edit.
+//! What a line says of a test program, or of the command that runs all of them.
+
+use crate::events::cargo::file_name;
+use crate::events::content::owned;
+use crate::events::members::{number_of, text_of};
+use deodarsieve::CancelReason;
+use serde_json::Value;
+
+/// The name of a program of which the line says neither the name nor the target nor the path.
+const NAMELESS: &str = "program";
+
+/// How a program or a command ended.
+#[derive(Clone, Copy, Debug, PartialEq, Eq)]
+pub enum ProgramEnd {
+    /// It ended with this exit status. On some systems a status may be negative.
+    Status(i64),
+
+    /// The signal with this number ended it.
+    Signal(u64),
+}
+
+/// A test program that starts, or rustdoc, which runs documentation tests.
+#[derive(Clone, Debug)]
+pub struct ProgramStart {
+    /// The name of its suites: the one that the line has; or else `PACKAGE (doc tests)`, if it runs documentation
+    /// tests; or else the target, or the file name of its path.
+    pub name: String,
+
+    /// The path of the program, if the line has it.
+    pub path: Option<String>,
+
+    /// True if the program has its own harness, which may write no line of a test.
+    pub own_harness: bool,
+
+    /// True if the harness was asked for a list of its tests or for its help, and runs none.
+    pub lists: bool,
+}
+
+/// What a line says of a test program, or of the command that runs all of them. These lines have the types `program`
+/// and `command`; `test-report` writes them when it runs a command.
+#[derive(Clone, Debug)]
+pub enum ProgramLine {
+    /// A program starts.
+    ProgramStarted(ProgramStart),
+
+    /// A program ended.
+    ProgramEnded {
+        /// How it ended, if the line says so.
+        end: Option<ProgramEnd>,
+
+        /// The end of what it wrote to standard error.
+        stderr: String,
+    },
+
+    /// The command starts.
+    CommandStarted,
+
+    /// Ctrl-C or SIGTERM was taken here, for the reason that the line has. Another reason than these is `None`.
+    CommandCancelled(Option<CancelReason>),
+
+    /// The command ended.
+    CommandEnded {
+        /// How it ended. If this is `None`, it could not be started.
+        end: Option<ProgramEnd>,
+
+        /// The error that it reported, or that of the system.
+        error: Option<String>,
+
+        /// Why the run was cancelled, if the line says so.
+        reason: Option<CancelReason>,
+    },
+}
+
+impl ProgramLine {
+    /// Returns what a JSON object says of a program or of the command, if it does.
+    pub(crate) fn of(object: &Value) -> Option<ProgramLine> {
+        match (text_of(object, "type"), text_of(object, "event")) {
+            (Some("program"), Some(event)) => program_line(object, event),
+            (Some("command"), Some(event)) => command_line(object, event),
+            _ => None,
+        }
+    }
+}
+
+/// Returns what an object of the type `program` says, of this event.
+fn program_line(object: &Value, event: &str) -> Option<ProgramLine> {
+    match event {
+        "started" => Some(ProgramLine::ProgramStarted(start_of(object))),
+        "ended" => Some(ProgramLine::ProgramEnded {
+            end: end_of(object),
+            stderr: String::from(text_of(object, "stderr").unwrap_or("")),
+        }),
+        _ => None,
+    }
+}
+
+/// Returns what an object of the type `command` says, of this event.
+fn command_line(object: &Value, event: &str) -> Option<ProgramLine> {
+    match event {
+        "started" => Some(ProgramLine::CommandStarted),
+        "cancelled" => Some(ProgramLine::CommandCancelled(reason_of(object))),
+        "ended" => Some(ProgramLine::CommandEnded {
+            end: end_of(object),
+            error: owned(text_of(object, "error")),
+            reason: reason_of(object),
+        }),
+        _ => None,
+    }
+}
+
+/// Returns the program that starts.
+fn start_of(object: &Value) -> ProgramStart {
+    ProgramStart {
+        name: name_of(object),
+        path: owned(text_of(object, "path")),
+        own_harness: truth_of(object, "harness") == Some(false),
+        lists: truth_of(object, "list") == Some(true),
+    }
+}
+
+/// Returns the name of the program that starts.
+fn name_of(object: &Value) -> String {
+    if let Some(name) = text_of(object, "name") {
+        return String::from(name);
+    }
+    match (text_of(object, "kind"), text_of(object, "package")) {
+        (Some("doc"), Some(package)) => format!("{package} (doc tests)"),
+        (Some("doc"), None) => String::from(NAMELESS),
+        _ => String::from(target_of(object).unwrap_or(NAMELESS)),
+    }
+}
+
+/// Returns the target of the program that starts, or the file name of its path.
+fn target_of(object: &Value) -> Option<&str> {
+    match text_of(object, "target") {
+        Some(target) => Some(target),
+        None => text_of(object, "path").map(file_name),
+    }
+}
+
+/// Returns how something ended.
+fn end_of(object: &Value) -> Option<ProgramEnd> {
+    match object.get("status").and_then(Value::as_i64) {
+        Some(status) => Some(ProgramEnd::Status(status)),
+        None => number_of(object, "signal").map(ProgramEnd::Signal),
+    }
+}
+
+/// Returns why the run is cancelled.
+fn reason_of(object: &Value) -> Option<CancelReason> {
+    match text_of(object, "cancelled")? {
+        "Interrupt" => Some(CancelReason::Interrupt),
+        "Signal" => Some(CancelReason::Signal),
+        _ => None,
+    }
+}
+
+/// Returns the truth value of a member.
+fn truth_of(object: &Value, key: &str) -> Option<bool> {
+    object.get(key).and_then(Value::as_bool)
+}
