@@ -2,20 +2,23 @@
 use Rattle.std.proofs.Common.{◌≡◌, ◌++◌, ◌+◌, ℕ, List, [], Option, false, length, drop, map, take, if◌then◌else◌, append_assoc}
 use Rattle.test_report_run_notes.specs.Note.{HasNoEnd, NoteView}
 use Rattle.test_report_run.specs.Others.{OthersView}
-use Rattle.test_report_run.specs.Over.{crash_of, crashed_notes, early_disagreements, early_notes, explained_of, failed_notes, flaky_notes, last_disagreement, last_notes, number_notes, skipped_note, with_all_flaky, with_failed}
+use Rattle.test_report_run.specs.Over.{EarlyEnd, crash_of, crashed_notes, crashed_of, early_disagreements, early_notes, explained_of, failed_notes, flaky_notes, last_disagreement, last_notes, number_notes, skipped_note, stopped_note, stopped_of, with_all_flaky, with_failed}
 use Rattle.std.specs.Option.{option_or}
 use Rattle.test_report_run.specs.Running.{RunningView}
 use Rattle.test_report_run.specs.Suite.{SuiteState}
 use Rattle.test_report_run.specs.declared.last_line.Explanation.{Explanation}
 
-pub early-notes : (others : OthersView) (s s1 s2 : SuiteState) (tests : List RunningView) (n crashed : ℕ) (old n1 n2 n3 n4 : List NoteView)
-    → n ≡ length tests → crashed ≡ n
-    → s1 ≡ record s { stats = with_failed s.stats tests; crashed = s.crashed + n } → n1 ≡ old ++ crashed_notes s (crash_of others s n) tests
-    → s2 ≡ record s1 { stats = with_all_flaky false s1.stats s1.flaky; flaky = [] } → n2 ≡ n1 ++ flaky_notes s1 false
-    → n3 ≡ n2 ++ early_disagreements s2 crashed → n4 ≡ n3 ++ number_notes s2 record { skipped = s2.skipped; left = 0; time = s2.time }
-    → n4 ≡ old ++ early_notes others s tests
-early-notes others s s1 s2 tests n crashed old n1 n2 n3 n4 count same after failed released flaky early numbers =
-    rw (numbers, early, flaky, failed, released, after, same, count) (simp append_assoc)
+pub early-notes : (others : OthersView) (how : EarlyEnd) (s s1 s2 : SuiteState) (tests crashed stopped : List RunningView) (n crashes left : ℕ)
+    (old n1 n2 n3 n4 n5 : List NoteView)
+    → crashed ≡ crashed_of s how tests → stopped ≡ stopped_of s how tests → n ≡ length crashed → crashes ≡ n → left ≡ length stopped
+    → s1 ≡ record s { stats = with_failed s.stats crashed; crashed = s.crashed + n } → n1 ≡ old ++ crashed_notes s (crash_of others how.end s n) crashed
+    → n2 ≡ n1 ++ map (stopped_note s1) stopped
+    → s2 ≡ record s1 { stats = with_all_flaky false s1.stats s1.flaky; flaky = [] } → n3 ≡ n2 ++ flaky_notes s1 false
+    → n4 ≡ n3 ++ early_disagreements s2 how.end crashes → n5 ≡ n4 ++ number_notes s2 record { skipped = s2.skipped; left = left; time = s2.time }
+    → n5 ≡ old ++ early_notes others how s tests
+early-notes others how s s1 s2 tests crashed stopped n crashes left old n1 n2 n3 n4 n5 crash stop count same rest after failed stops released flaky early
+    numbers =
+    rw (numbers, early, flaky, stops, failed, released, after, same, count, rest, crash, stop) (simp append_assoc)
 
 -- the same for a suite that ends by its last line: the notes of its tests `front` that may be skipped, and of the others, `back`
 pub last-notes : (s s1 s2 : SuiteState) (tests front back : List RunningView) (e : Explanation) (n left : ℕ) (time : Option ℕ)

@@ -10,6 +10,7 @@ pub mod KeySteps
 pub mod LastPrints
 pub mod Lines
 pub mod LongestEnds
+pub mod Named
 pub mod OpenSteps
 pub mod OrderSteps
 pub mod Runs

@@ -10,7 +10,7 @@ use Rattle.test_report_events.specs.Event.{SuiteEndView, TestEndView}
 use Rattle.test_report_run_notes.proofs.Places.{remove-set}
 use Rattle.test_report_run_notes.specs.Note.{NoteView, text_view}
 use Rattle.test_report_run.specs.Others.{event_place}
-use Rattle.test_report_run.specs.Over.{early_notes, last_notes}
+use Rattle.test_report_run.specs.Over.{EarlyEnd, early_notes, last_notes, nothing_known}
 use Rattle.test_report_run.specs.Run.{RunState, Step, ended_at, ended_early, heard, last_place, opened, running_ends, started_again, step, stray_ends, suite_at, suite_place, test_over, tests_in, with_suite_at, without_tests}
 use Rattle.test_report_run.specs.Running.{RunningView, ended_at as test_at}
 use Rattle.test_report_run.specs.Name.{before_dollar}
@@ -18,9 +18,10 @@ use Rattle.test_report_run.specs.Suite.{SuiteState, cancelled_by, has_key, joine
 use Rattle.test_report_run.specs.declared.others.EventPlace.{EventPlace}
 use Rattle.test_report_run.specs.declared.suite.Suite.{Suite}
 
-pub ended-early : (old run : RunState) (s : SuiteState) (tests : List RunningView) (notes after : List NoteView) → tests ≡ tests_in old s
-    → run ≡ without_tests old s → after ≡ notes ++ early_notes old.others (cancelled_by old.cancel s) tests → step run after ≡ ended_early (step old notes) s
-ended-early old run s tests notes after running same told = rw (told, running, same)
+pub ended-early : (how : EarlyEnd) (old run : RunState) (s : SuiteState) (tests : List RunningView) (notes after : List NoteView) → tests ≡ tests_in old s
+    → run ≡ without_tests old s → after ≡ notes ++ early_notes old.others how (cancelled_by old.cancel s) tests
+    → step run after ≡ ended_early how (step old notes) s
+ended-early how old run s tests notes after running same told = rw (told, running, same)
 
 -- what a box of a suite keeps
 abbrev pub boxed_state : Box Suite Global → SuiteState
@@ -70,13 +71,13 @@ no-key None is = is
 no-key (Some key) is = is
 
 pub again-tells : (r r1 : RunState) (key : Option (List ℕ)) (count : Option ℕ) (at : ℕ) (s : SuiteState) (t : Step) (old : List NoteView) → is_some key ≡ false
-    → s ≡ suite_at r (Some at) → r1 ≡ record r { suites = remove r.suites at } → t ≡ ended_early (step r1 old) s
+    → s ≡ suite_at r (Some at) → r1 ≡ record r { suites = remove r.suites at } → t ≡ ended_early nothing_known (step r1 old) s
     → t.notes ≡ old ++ (started_again r key count at).notes
 again-tells r r1 key count at s t old keyless suite left ended =
     let rest : RunState = record r { suites = remove r.suites at } in
-    let over : Step = ended_early (step rest []) (suite_at r (Some at)) in
-    ap (λ (x : Step). x.notes) ended ∙ ap (λ (x : RunState). (ended_early (step x old) s).notes) left
-    ∙ ap (λ (x : SuiteState). (ended_early (step rest old) x).notes) suite
+    let over : Step = ended_early nothing_known (step rest []) (suite_at r (Some at)) in
+    ap (λ (x : Step). x.notes) ended ∙ ap (λ (x : RunState). (ended_early nothing_known (step x old) s).notes) left
+    ∙ ap (λ (x : SuiteState). (ended_early nothing_known (step rest old) x).notes) suite
     ∙ ap (λ (b : Bool). old ++ (cond b (step (with_suite_at r (Some at) (joined_by (suite_at r (Some at)) count)) [])
     (step (opened over.run key count) over.notes)).notes) (sym keyless)
 

@@ -1,6 +1,6 @@
 -- Kinds of events.
 use Rattle.std.specs.Prelude.{Bool, true, false}
-use Rattle.test_report_events.specs.Event.{EventView, SuiteStarts, SuiteEnds, TestStarts, TestEnds, TestIsSlow, OtherLine, HeadingLine, CargoFails, Prints, DamagedLine, CommandStarts, CommandOver, Cancels}
+use Rattle.test_report_events.specs.Event.{EventView, SuiteStarts, SuiteEnds, TestStarts, TestEnds, TestIsSlow, OtherLine, HeadingLine, CargoFails, Prints, DamagedLine, CommandStarts, CommandOver, Cancels, AllEndEarly, ProgramDisagrees}
 
 -- the line is an event of a harness
 abbrev pub is_event : EventView → Bool
@@ -17,6 +17,8 @@ is_event (DamagedLine text) = false
 is_event (CommandStarts names) = false
 is_event (CommandOver end) = false
 is_event (Cancels reason) = false
+is_event (AllEndEarly end) = false
+is_event (ProgramDisagrees fault) = false
 
 -- a heading, an event or a failure comes after all that may say why cargo failed before it
 abbrev pub is_after_report : EventView → Bool
@@ -33,3 +35,5 @@ is_after_report (DamagedLine text) = false
 is_after_report (CommandStarts names) = false
 is_after_report (CommandOver end) = false
 is_after_report (Cancels reason) = false
+is_after_report (AllEndEarly end) = false
+is_after_report (ProgramDisagrees fault) = false

@@ -1,14 +1,13 @@
 -- The end of a file, and of a run.
 use Rattle.std.specs.Prelude.{◌-◌, ◌++◌, ◌==◌, ◌∷◌, ◌||◌, ◌&&◌, [], ℕ, List, Bool, true, false, length, map, nat_lt, not, if◌then◌else◌, drop, slice_get, Option, None, Some}
-use Rattle.std.specs.List.{fold}
 use Rattle.std.specs.Option.{option_map_or}
-use Rattle.test_report_events.specs.Event.{BySignal, CommandOver, CommandView, NotStarted, WithStatus}
+use Rattle.test_report_events.specs.Event.{BySignal, CommandOver, CommandView, NotStarted, WithError, WithStatus}
 use Rattle.test_report_run_notes.specs.Note.{CargoSays, CargoView, CommandFails, Disagrees, HasNoEvent, NoteView, ended_well, was_not_started}
 use Rattle.test_report_run_notes.specs.declared.note.RunEnd.{RunEnd}
 use Rattle.test_report_run.specs.Others.{no_others}
-use Rattle.test_report_run.specs.Suite.{outside_start}
+use Rattle.test_report_run.specs.Over.{nothing_known}
 use Rattle.test_report_run.specs.Totals.{ending}
-use Rattle.test_report_run.specs.Run.{RunState, Step, step, after, ended_early, settled, learned}
+use Rattle.test_report_run.specs.Run.{RunState, Step, step, after, all_ended_early, settled, learned, unless_cancelled}
 
 -- a failure of cargo when the command has ended. It does not lack events if there was one, before the failure or after it
 abbrev pub at_end : Bool → CargoView → CargoView
@@ -34,12 +33,6 @@ no_event_notes r =
     if not r.has_event && (not (nat_lt r.causes_at_file r.causes) && not (ended_well r.command || was_not_started r.command))
     then Disagrees (HasNoEvent (file_name r)) ∷ [] else []
 
--- the open suites end early, and then the tests outside of a suite
-abbrev pub all_ended_early : RunState → Step
-all_ended_early r =
-    let suites = fold ended_early (step (record r { suites = [] }) []) r.suites in
-    ended_early (step (record (suites.run) { outside = outside_start }) suites.notes) r.outside
-
 -- the failures of cargo that are not known yet become known, or were prints
 abbrev pub reports_told : RunState → Step
 reports_told r = let last = settled r false in let held = held_told last.run in step held.run (last.notes ++ held.notes)
@@ -48,18 +41,19 @@ reports_told r = let last = settled r false in let held = held_told last.run in 
 abbrev pub file_end : RunState → Step
 file_end r =
     let reports = reports_told r in
-    let suites = all_ended_early reports.run in
+    let suites = all_ended_early nothing_known reports.run in
     step suites.run (reports.notes ++ (suites.notes ++ no_event_notes suites.run))
 
--- a command disagrees that could not be started, that ended by a signal, or that ended with a status above 0 if nothing says why
+-- a command disagrees that could not be started, that ended by a signal, or that ended with a status above 0 if nothing else says why
 abbrev pub command_fails : ℕ → CommandView → Bool
 command_fails causes (NotStarted error) = true
 command_fails causes (BySignal number) = true
 command_fails causes (WithStatus code) = not (code == 0) && causes == 0
+command_fails causes (WithError code words) = causes == 0
 
 -- what the end of the command says
 abbrev pub command_notes : RunState → List NoteView
-command_notes r = option_map_or (λ end. if command_fails r.causes end then Disagrees (CommandFails end) ∷ [] else []) r.command []
+command_notes r = option_map_or (λ end. if command_fails r.causes end then Disagrees (unless_cancelled r (CommandFails end)) ∷ [] else []) r.command []
 
 -- what the end of a file makes known
 abbrev pub file_notes : RunState → List NoteView
@@ -88,7 +82,7 @@ after_file r = begun (learned (file_end r).run (file_notes r))
 
 -- the sums and the outcome
 abbrev pub end_of : RunState → RunEnd
-end_of r = ending r.totals r.disagreements
+end_of r = ending r.totals r.disagreements r.cancels
 
 -- the run before the end of its last file, when it is known how the command ended that wrote the file, if one did
 abbrev pub with_command : RunState → Option CommandView → RunState

@@ -1,19 +1,67 @@
 -- A suite that is over.
-use Rattle.std.specs.Prelude.{◌+◌, ◌-◌, ◌++◌, ◌==◌, ◌∷◌, [], ℕ, List, Bool, true, false, drop, length, map, max, nat_lt, take, if◌then◌else◌, is_some, None, unwrap_or}
-use Rattle.std.specs.List.{fold}
+use Rattle.std.specs.Prelude.{◌+◌, ◌-◌, ◌++◌, ◌==◌, ◌∷◌, ◌&&◌, [], ℕ, List, Bool, true, false, drop, filter, is_none, length, map, max, nat_lt, not, take, if◌then◌else◌, is_some, None, Option, String, option_map, string_bytes, unwrap_or}
+use Rattle.std.specs.BTreeSet.{BTreeSet}
+use Rattle.std.specs.List.{fold, list_any}
 use Rattle.std.specs.Option.{option_map_or, option_or}
+use Rattle.std.specs.Str.{bytes_eq}
+use Rattle.std.specs.declared.alloc.Global.{Global}
 use Rattle.run_events_stats.specs.Counters.{with_test}
 use Rattle.run_events_stats.specs.declared.stats.RunStats.{RunStats}
+use Rattle.test_report_events.specs.Event.{EarlyEndView}
+use Rattle.test_report_events.specs.declared.program.ProgramEnd.{ProgramEnd}
 use Rattle.test_report_run_notes.specs.Finish.{view_of_finish}
-use Rattle.test_report_run_notes.specs.Note.{CrashView, Disagrees, EndsEarly, FailureView, Fails, HasCrashed, HasNoEnd, IsFlaky, IsNotRun, IsSkipped, KindView, NoteView, OutcomeView, Passes, SaysOther, StartsOutside, SuiteIs, failed_of}
+use Rattle.test_report_run_notes.specs.Note.{CrashView, DisagreementView, Disagrees, EndsEarly, FailureView, Fails, HasCrashed, HasNoEnd, IsFlaky, IsNotRun, IsSkipped, IsStopped, KindView, NoteView, OutcomeView, Passes, SaysOther, StartsOutside, SuiteIs, WasCancelled, failed_of}
 use Rattle.test_report_run_notes.specs.declared.finish.Finish.TheVariants as finish
 use Rattle.test_report_run.specs.LastLine.{explanation_of, is_contradicted}
 use Rattle.test_report_run.specs.Others.{OthersView, cause_after, last_prints_from, prints_from}
 use Rattle.test_report_run.specs.Running.{RunningView}
 use Rattle.test_report_run.specs.Said.{numbers_of}
 use Rattle.test_report_run.specs.Suite.{FlakyView, OverView, SuiteState, suite_name, tally_of, test_note}
+use Rattle.test_report_run.specs.declared.early.Ending.{Ending}
+use Rattle.test_report_run.specs.declared.early.EarlyEnd as early
 use Rattle.test_report_run.specs.declared.last_line.Explanation.{Explanation}
 use Rattle.test_report_run.specs.declared.over.Rest.{Rest}
+
+-- the names in a set, in their order
+abbrev pub names_of : BTreeSet (String Global) → List (List ℕ)
+names_of names = map string_bytes names.keys
+
+-- what is known when all that is open ends early
+abbrev pub early_view : early.EarlyEnd → EarlyEndView
+early_view e = record { end = e.end; overflowed = names_of e.overflowed; panicked = names_of e.panicked }
+
+-- how open suites end early: how their program ended, if that is known, and the names of the tests that crashed, if it is known that not all of them did
+pub record EarlyEnd : Type 0 where
+  pub end : Option ProgramEnd
+  pub crashed : Option (List (List ℕ))
+
+-- what is kept of that
+abbrev pub early_end_of : Ending → EarlyEnd
+early_end_of e = record { end = e.end; crashed = option_map names_of e.crashed }
+
+-- nothing is known about it
+abbrev pub nothing_known : EarlyEnd
+nothing_known = record { end = None; crashed = None }
+
+-- the test has one of these names
+abbrev pub is_among : List (List ℕ) → RunningView → Bool
+is_among names t = list_any (bytes_eq t.name) names
+
+-- a running test crashed: it has one of the names, or there are none
+abbrev pub is_crashed : EarlyEnd → RunningView → Bool
+is_crashed how t = option_map_or (λ names. is_among names t) how.crashed true
+
+-- a running test of the suite crashes, unless the run is cancelled
+abbrev pub crashes : SuiteState → EarlyEnd → RunningView → Bool
+crashes s how t = is_none s.cancel && is_crashed how t
+
+-- the running tests of the suite that crash
+abbrev pub crashed_of : SuiteState → EarlyEnd → List RunningView → List RunningView
+crashed_of s how tests = filter (crashes s how) tests
+
+-- those that are stopped
+abbrev pub stopped_of : SuiteState → EarlyEnd → List RunningView → List RunningView
+stopped_of s how tests = filter (λ t. not (crashes s how t)) tests
 
 -- a test of the suite without end is over
 abbrev pub over_of : SuiteState → RunningView → OverView
@@ -31,11 +79,12 @@ failed_note s kind t = test_note s (over_of s t) (Fails (bare_failure kind))
 abbrev pub failed_notes : SuiteState → KindView → List RunningView → List NoteView
 failed_notes s kind tests = map (failed_note s kind) tests
 
--- how the first test crashed while this number of tests of the suite ran, after these lines that are no events
-abbrev pub crash_of : OthersView → SuiteState → ℕ → CrashView
-crash_of others s running = record {
+-- how the first of this number of tests of the suite crashed, after these lines that are no events, if the program ended so
+abbrev pub crash_of : OthersView → Option ProgramEnd → SuiteState → ℕ → CrashView
+crash_of others end s running = record {
   running = running;
   has_key = is_some s.key;
+  end = end;
   cause = cause_after others s.last_event;
   prints = prints_from others s.start;
   last = last_prints_from others s.start;
@@ -50,6 +99,10 @@ crash_again c = record c { above = true }
 abbrev pub crashed_notes : SuiteState → CrashView → List RunningView → List NoteView
 crashed_notes s c [] = []
 crashed_notes s c (t ∷ tests) = failed_note s (HasCrashed c) t ∷ failed_notes s (HasCrashed (crash_again c)) tests
+
+-- this test without end was stopped
+abbrev pub stopped_note : SuiteState → RunningView → NoteView
+stopped_note s t = test_note s (over_of s t) IsStopped
 
 -- the statistics with one more test without end that failed
 abbrev pub one_failed : RunStats → RunningView → RunStats
@@ -97,27 +150,37 @@ number_notes s rest =
     option_map_or (λ name. if nat_lt 0 not_run then IsNotRun name not_run initial ∷ [] else []) (suite_name s) []
     ++ SuiteIs record { name = suite_name s; stats = s.stats; skipped = rest.skipped; not_run = not_run; crashed = s.crashed; time = rest.time } ∷ []
 
+-- a suite with this name that ends early disagrees, unless the run is cancelled
+abbrev pub early_disagreement : SuiteState → Option ProgramEnd → List ℕ → DisagreementView
+early_disagreement s end name = option_map_or WasCancelled s.cancel (EndsEarly name end)
+
 -- a suite that ends early disagrees if none of its tests crashed, and so do tests that started outside of a suite
-abbrev pub early_disagreements : SuiteState → ℕ → List NoteView
-early_disagreements s crashed =
-    option_map_or (λ name. if crashed == 0 then Disagrees (EndsEarly name) ∷ [] else []) (suite_name s)
+abbrev pub early_disagreements : SuiteState → Option ProgramEnd → ℕ → List NoteView
+early_disagreements s end crashed =
+    option_map_or (λ name. if crashed == 0 then Disagrees (early_disagreement s end name) ∷ [] else []) (suite_name s)
     (if nat_lt 0 s.started then Disagrees (StartsOutside s.started) ∷ [] else [])
 
--- a suite that ends early counts its running tests as crashed, and its flaky tests as passed
+-- a suite that ends early counts those of its running tests that crashed, and its flaky tests as passed
 abbrev pub early_state : SuiteState → List RunningView → SuiteState
-early_state s tests = record s {
-  stats = with_all_flaky false (with_failed s.stats tests) s.flaky;
-  crashed = s.crashed + length tests;
+early_state s crashed = record s {
+  stats = with_all_flaky false (with_failed s.stats crashed) s.flaky;
+  crashed = s.crashed + length crashed;
   flaky = [];
 }
 
--- what becomes known when a suite ends early while these tests run, after these lines that are no events
-abbrev pub early_notes : OthersView → SuiteState → List RunningView → List NoteView
-early_notes others s tests =
-    crashed_notes s (crash_of others s (length tests)) tests
+-- what becomes known when a suite ends early and these of its tests crash and these are stopped, after these lines that are no events, if its program
+-- ended so
+abbrev pub early_by : OthersView → Option ProgramEnd → SuiteState → List RunningView → List RunningView → List NoteView
+early_by others end s crashed stopped =
+    crashed_notes s (crash_of others end s (length crashed)) crashed
+    ++ (map (stopped_note s) stopped
     ++ (flaky_notes s false
-    ++ (early_disagreements s (length tests)
-    ++ number_notes (early_state s tests) record { skipped = s.skipped; left = 0; time = s.time }))
+    ++ (early_disagreements s end (length crashed)
+    ++ number_notes (early_state s crashed) record { skipped = s.skipped; left = length stopped; time = s.time })))
+
+-- what becomes known when a suite ends early so while these tests run
+abbrev pub early_notes : OthersView → EarlyEnd → SuiteState → List RunningView → List NoteView
+early_notes others how s tests = early_by others how.end s (crashed_of s how tests) (stopped_of s how tests)
 
 -- what the last line of a suite explains while this number of its tests run
 abbrev pub explained_of : SuiteState → ℕ → Explanation

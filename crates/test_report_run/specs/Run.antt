@@ -1,22 +1,22 @@
 -- A run, line by line.
 use Rattle.std.specs.Prelude.{◌+◌, ◌-◌, ◌++◌, ◌==◌, ◌∷◌, ◌||◌, ◌&&◌, [], ℕ, List, Bool, true, false, codes, filter, is_some, length, map, nat_eq, nat_le, nat_lt, not, if◌then◌else◌, slice_index_or, slice_set, Option, Some, None, option_and_then, option_map, string_bytes}
 use Rattle.std.specs.Map.{lookup}
-use Rattle.std.specs.List.{count_by, fold, position, remove, starts_with}
+use Rattle.std.specs.List.{count_by, fold, list_any, position, remove, starts_with}
 use Rattle.std.specs.Option.{option_map_or, option_or, unwrap_or}
 use Rattle.std.specs.Str.{bytes_eq}
 use Rattle.run_events_results.specs.declared.results.CancelReason.{CancelReason}
-use Rattle.test_report_events.specs.Event.{Cancels, CommandView, EventView, SuiteEndView, SuiteNames, TestEndView, SuiteStarts, SuiteEnds, TestStarts, TestEnds, TestIsSlow, OtherLine, HeadingLine, CargoFails, Prints, DamagedLine, CommandStarts, CommandOver}
+use Rattle.test_report_events.specs.Event.{AllEndEarly, Cancels, CommandView, EarlyEndView, EventView, ProgramDisagrees, SuiteEndView, SuiteNames, TestEndView, SuiteStarts, SuiteEnds, TestStarts, TestEnds, TestIsSlow, OtherLine, HeadingLine, CargoFails, Prints, DamagedLine, CommandStarts, CommandOver}
 use Rattle.test_report_events.specs.declared.event.CargoFailure.{CargoFailure}
 use Rattle.test_report_events.specs.declared.event.CargoFailure.TheVariants.{Build, Tests, Run}
 use Rattle.test_report_events.specs.declared.event.TestResult.TheVariants.{Ok, Failed, Ignored}
-use Rattle.test_report_run_notes.specs.Note.{CargoSays, CargoView, Disagrees, Fails, FlakyEnds, IsDamaged, IsNotRun, IsSkipped, NoteView, OutcomeView, Passes, StrayEnds, StraySuiteEnds, SuiteIs, TestIs, cargo_view, command_view, is_new_disagreement}
+use Rattle.test_report_run_notes.specs.Note.{CargoSays, CargoView, CommandFails, DisagreementView, Disagrees, EndsEarly, Fails, FlakyEnds, HasNoEvent, IsDamaged, IsNotRun, IsSkipped, IsStopped, NoteView, OfProgram, OutcomeView, Passes, SaysOther, StartsOutside, StrayEnds, StraySuiteEnds, SuiteIs, TestIs, WasCancelled, cargo_view, command_view, is_new_disagreement}
 use Rattle.test_report_run_notes.specs.declared.note.RunEnd.{RunEnd}
 use Rattle.test_report_run.specs.Ended.{after_end, after_stray, end_notes, stray_notes}
 use Rattle.test_report_run.specs.Events.{is_after_report, is_event}
 use Rattle.test_report_run.specs.Headings.{NamedPaths, headings_of, shown_by, with_heading}
 use Rattle.test_report_run.specs.LongestEnd.{joined, with_kept}
 use Rattle.test_report_run.specs.OpenSuites.{suites_of}
-use Rattle.test_report_run.specs.Over.{early_notes, last_notes}
+use Rattle.test_report_run.specs.Over.{EarlyEnd, early_notes, is_among, last_notes, nothing_known}
 use Rattle.test_report_run.specs.Others.{OthersView, after_failure, after_heading, after_print, event_place, last_cause, no_others, others_view}
 use Rattle.test_report_run.specs.Prints.{cut, lines_of}
 use Rattle.test_report_run.specs.Running.{RunningView, is_of, is_same, place_of_end, running_at, tests_of, with_slow}
@@ -69,6 +69,8 @@ pub record RunState : Type 0 where
   -- the sums over the suites that are over, and how many lines disagree
   pub totals : RunEnd
   pub disagreements : ℕ
+  -- how many of these say that the run was cancelled
+  pub cancels : ℕ
   -- how many tests failed and lines disagree, with the failures of cargo that are not known yet: now, when the file began, and at the last failure of
   -- cargo that counted
   pub causes : ℕ
@@ -102,6 +104,7 @@ run_state r = record {
   ended = r.ended;
   totals = r.totals.end;
   disagreements = r.disagreements;
+  cancels = r.cancels;
   causes = r.causes;
   causes_at_file = r.causes_at_file;
   causes_at_cargo = r.causes_at_cargo;
@@ -132,6 +135,7 @@ run_start settings = record {
   ended = 0;
   totals = no_suites;
   disagreements = 0;
+  cancels = 0;
   causes = 0;
   causes_at_file = 0;
   causes_at_cargo = 0;
@@ -184,9 +188,30 @@ tests_in r s = filter (is_of s.number) r.running
 abbrev pub without_tests : RunState → SuiteState → RunState
 without_tests r s = record r { running = filter (λ t. not (is_of s.number t)) r.running }
 
--- a suite that was open ends early
-abbrev pub ended_early : Step → SuiteState → Step
-ended_early t s = step (without_tests t.run s) (t.notes ++ early_notes t.run.others (cancelled_by t.run.cancel s) (tests_in t.run s))
+-- a suite that was open ends early so
+abbrev pub ended_early : EarlyEnd → Step → SuiteState → Step
+ended_early how t s = step (without_tests t.run s) (t.notes ++ early_notes t.run.others how (cancelled_by t.run.cancel s) (tests_in t.run s))
+
+-- the open suites end early so, and then the tests outside of a suite
+abbrev pub all_ended_early : EarlyEnd → RunState → Step
+all_ended_early how r =
+    let suites = fold (ended_early how) (step (record r { suites = [] }) []) r.suites in
+    ended_early how (step (record (suites.run) { outside = outside_start }) suites.notes) r.outside
+
+-- the first of two lists of names that has the name of a running test, if one has
+abbrev pub named_of : RunState → EarlyEndView → Option (List (List ℕ))
+named_of r e =
+    if list_any (is_among e.overflowed) r.running then Some e.overflowed
+    else if list_any (is_among e.panicked) r.running then Some e.panicked
+    else None
+
+-- how all that is open ends early: if threads that overflowed their stack have the names of running tests, these crashed, or else those that panicked
+abbrev pub early_end : RunState → EarlyEndView → EarlyEnd
+early_end r e = record { end = e.end; crashed = named_of r e }
+
+-- a contradiction about the end of something, unless the run is cancelled
+abbrev pub unless_cancelled : RunState → DisagreementView → DisagreementView
+unless_cancelled r d = option_map_or WasCancelled r.cancel d
 
 -- the run with one more open suite
 abbrev pub opened : RunState → Option (List ℕ) → Option ℕ → RunState
@@ -200,7 +225,7 @@ abbrev pub started_again : RunState → Option (List ℕ) → Option ℕ → ℕ
 started_again r key count at =
     let s = suite_at r (Some at) in
     if is_some key then step (with_suite_at r (Some at) (joined_by s count)) []
-    else let over = ended_early (step (record r { suites = remove r.suites at }) []) s in step (opened over.run key count) over.notes
+    else let over = ended_early nothing_known (step (record r { suites = remove r.suites at }) []) s in step (opened over.run key count) over.notes
 
 -- the first line of a suite
 abbrev pub suite_starts : RunState → Option (List ℕ) → Option ℕ → Step
@@ -381,11 +406,14 @@ told r (DamagedLine text) = step r (Disagrees (IsDamaged (cut text)) ∷ [])
 told r (CommandStarts names) = step (record r { of_command = true; names = names }) []
 told r (CommandOver end) = step (record r { command = Some end }) []
 told r (Cancels reason) = step (record r { cancel = Some reason }) []
+told r (AllEndEarly end) = all_ended_early (early_end r end) r
+told r (ProgramDisagrees fault) = step r (Disagrees (unless_cancelled r (OfProgram fault)) ∷ [])
 
 -- the test failed
 abbrev pub has_failed : OutcomeView → Bool
 has_failed (Passes output) = false
 has_failed (IsSkipped reason) = false
+has_failed IsStopped = false
 has_failed (Fails failure) = true
 
 -- the note is of a failed test
@@ -403,6 +431,28 @@ is_disagreement (FlakyEnds t) = false
 is_disagreement (Disagrees d) = true
 is_disagreement (IsNotRun suite n of) = false
 is_disagreement (SuiteIs s) = false
+
+-- the disagreement says that the run was cancelled
+abbrev pub is_cancellation : DisagreementView → Bool
+is_cancellation (WasCancelled reason) = true
+is_cancellation (EndsEarly suite end) = false
+is_cancellation (SaysOther suite said passed failed) = false
+is_cancellation (StrayEnds name how) = false
+is_cancellation (StraySuiteEnds key failed) = false
+is_cancellation (StartsOutside n) = false
+is_cancellation (CargoSays report) = false
+is_cancellation (IsDamaged text) = false
+is_cancellation (HasNoEvent file) = false
+is_cancellation (CommandFails end) = false
+is_cancellation (OfProgram fault) = false
+
+-- the note says that the run was cancelled
+abbrev pub is_cancel_note : NoteView → Bool
+is_cancel_note (Disagrees d) = is_cancellation d
+is_cancel_note (TestIs t) = false
+is_cancel_note (FlakyEnds t) = false
+is_cancel_note (IsNotRun suite n of) = false
+is_cancel_note (SuiteIs s) = false
 
 -- the note is of a failed test, or is a disagreement
 abbrev pub is_cause : NoteView → Bool
@@ -429,6 +479,7 @@ abbrev pub learned : RunState → List NoteView → RunState
 learned r notes = record r {
   totals = fold with_note r.totals notes;
   disagreements = r.disagreements + count_by is_disagreement notes;
+  cancels = r.cancels + count_by is_cancel_note notes;
   causes = r.causes + count_by is_new_cause notes;
 }
 
@@ -447,6 +498,8 @@ marked r (DamagedLine text) = r
 marked r (CommandStarts names) = r
 marked r (CommandOver end) = r
 marked r (Cancels reason) = r
+marked r (AllEndEarly end) = r
+marked r (ProgramDisagrees fault) = r
 
 -- the run after a line, before its notes are counted, and what the line makes known
 abbrev pub told_at : RunState → EventView → Step

@@ -38,6 +38,9 @@ with_suite e s = record {
   outcome = combined e.outcome (suite_outcome s);
 }
 
--- the end of a run with this number of disagreements
-abbrev pub ending : RunEnd → ℕ → RunEnd
-ending e disagreements = if nat_lt 0 disagreements then record e { outcome = outcome.Failed step.Test } else e
+-- the end of a run with this number of disagreements, of which `cancels` say that it was cancelled
+abbrev pub ending : RunEnd → ℕ → ℕ → RunEnd
+ending e disagreements cancels =
+    if nat_lt cancels disagreements then record e { outcome = outcome.Failed step.Test }
+    else if nat_lt 0 disagreements then record e { outcome = combined e.outcome (outcome.Cancelled step.Test) }
+    else e

@@ -8,6 +8,7 @@ ghost use Rattle.test_report_run.specs.Running.{running_test_view, running_view}
 ghost use Rattle.test_report_run.specs.Suite.{flaky_view, over_view, state_of};
 
 use crate::counted::count;
+use crate::early::Ending;
 use crate::error::{RunError, one_more};
 use crate::flaky::FlakyTests;
 use crate::last_line::{Explanation, disagrees, explained};
@@ -16,6 +17,7 @@ use crate::running::RunningTest;
 use crate::suite::{FlakyTest, OverTest, Suite};
 use std::alloc::{AllocError, Global};
 use std::rc::Rc;
+use test_report_events::program::ProgramEnd;
 use test_report_run_notes::finish::Finish;
 use test_report_run_notes::note::{
     Crash, Disagreement, Failure, FailureKind, NotRun, Note, SuiteNote, TestOutcome, failed_count,
@@ -49,6 +51,7 @@ fn copy_of(alloc: Global, crash: &Crash) -> Result<Crash, AllocError>
     Ok(Crash {
         running: crash.running,
         has_key: crash.has_key,
+        end: crash.end,
         cause,
         prints: crash.prints.clone()?,
         last,
@@ -81,37 +84,77 @@ impl Suite {
         }
     }
 
-    /// Ends the suite without a last line, and adds its notes. `left` are its running tests, which crashed. `others`
-    /// are the lines of the file that are no events. Fails if memory runs out, or a number of the suite does not
-    /// fit.
+    /// Ends the suite without a last line, and adds its notes. `left` are its running tests, and `how` says which of
+    /// them crashed. `others` are the lines of the file that are no events. Fails if memory runs out, or a number of the
+    /// suite does not fit.
     pub(crate) fn end_early(
         mut self,
         alloc: Global,
         others: &Others,
+        how: &Ending,
         left: Vec<RunningTest>,
         notes: &mut Vec<Note>,
     ) -> Result<(), RunError>
         ensures { OnOk result (map note_view notes.new.items ≡ map note_view notes.old.items
-            ++ spec.early_notes (others_view others.now) (state_of self) (running_view left.items)) }
+            ++ spec.early_notes (others_view others.now) (spec.early_end_of how.now) (state_of self)
+            (running_view left.items)) }
     {
-        let crashed = left.len();
-        self.crash_left(alloc, others, left, notes)?;
+        let (crashed, stopped) = self.parted(alloc, how, left)?;
+        let (crashes, left) = (crashed.len(), stopped.len());
+        self.crash_left(alloc, others, how.end, crashed, notes)?;
+        self.stop_all(stopped, notes)?;
         self.release_flaky(alloc, false, notes)?;
-        self.push_early_end(crashed, notes)?;
+        self.push_early_end(how.end, crashes, notes)?;
         let rest = Rest {
             skipped: self.skipped as u128,
-            left: 0,
+            left,
             time: self.time,
         };
         self.push_numbers(rest, notes)?;
         Ok(())
     }
 
-    /// Counts the running tests of the suite as crashed. `others` are the lines of the file that are no events.
+    /// Returns those of the running tests of the suite that crashed, and those that were stopped.
+    fn parted(
+        &self,
+        alloc: Global,
+        how: &Ending,
+        left: Vec<RunningTest>,
+    ) -> Result<(Vec<RunningTest>, Vec<RunningTest>), AllocError>
+        ensures crashed { IfOk result (λ parts. running_view parts.0.items
+            ≡ spec.crashed_of (state_of self.now) (spec.early_end_of how.now) (running_view left.items)) }
+        ensures stopped { IfOk result (λ parts. running_view parts.1.items
+            ≡ spec.stopped_of (state_of self.now) (spec.early_end_of how.now) (running_view left.items)) }
+    {
+        let (mut crashed, mut stopped) = (Vec::new(alloc), Vec::new(alloc));
+        for test in left {
+            if self.cancel.is_none() && how.crashes(&test) {
+                crashed.push(test)?;
+            } else {
+                stopped.push(test)?;
+            }
+        }
+        Ok((crashed, stopped))
+    }
+
+    /// Adds that tests without end were stopped.
+    fn stop_all(&self, tests: Vec<RunningTest>, notes: &mut Vec<Note>) -> Result<(), AllocError>
+        ensures { OnOk result (map note_view notes.new.items ≡ map note_view notes.old.items
+            ++ map (spec.stopped_note (state_of self.now)) (running_view tests.items)) }
+    {
+        for test in tests {
+            notes.push(self.note(self.over(test), TestOutcome::Stopped)?)?;
+        }
+        Ok(())
+    }
+
+    /// Counts running tests of the suite as crashed. `others` are the lines of the file that are no events, and `end` is
+    /// how the program ended.
     fn crash_left(
         &mut self,
         alloc: Global,
         others: &Others,
+        end: Option<ProgramEnd>,
         mut left: Vec<RunningTest>,
         notes: &mut Vec<Note>,
     ) -> Result<(), RunError>
@@ -121,12 +164,12 @@ impl Suite {
         }) }
         ensures tells { OnOk result (map note_view notes.new.items ≡ map note_view notes.old.items
             ++ spec.crashed_notes (state_of self.old)
-            (spec.crash_of (others_view others.now) (state_of self.old) (length left.items)) (running_view left.items)) }
+            (spec.crash_of (others_view others.now) end (state_of self.old) (length left.items)) (running_view left.items)) }
     {
         if left.is_empty() {
             return Ok(());
         }
-        let mut crash = self.crash(alloc, others, left.len())?;
+        let mut crash = self.crash(alloc, others, end, left.len())?;
         let later = left.split_off(1)?;
         self.crash_all(alloc, &crash, left, notes)?;
         crash.above = true;
@@ -157,14 +200,21 @@ impl Suite {
         Ok(())
     }
 
-    /// Returns how the first test of the suite crashed. `running` is the number of its running tests.
-    fn crash(&self, alloc: Global, others: &Others, running: usize) -> Result<Crash, AllocError>
+    /// Returns how the first test of the suite crashed. `running` is the number of its tests that crashed.
+    fn crash(
+        &self,
+        alloc: Global,
+        others: &Others,
+        end: Option<ProgramEnd>,
+        running: usize,
+    ) -> Result<Crash, AllocError>
         ensures { IfOk result (λ crash. crash_view crash
-            ≡ spec.crash_of (others_view others.now) (state_of self.now) running) }
+            ≡ spec.crash_of (others_view others.now) end (state_of self.now) running) }
     {
         Ok(Crash {
             running,
             has_key: self.name.key.is_some(),
+            end,
             cause: others.cause_after(alloc, self.last_event)?,
             prints: Rc::new(alloc, others.prints_from(alloc, self.start)?)?,
             last: others.last_prints_from(alloc, self.start)?,
@@ -195,13 +245,22 @@ impl Suite {
     }
 
     /// Adds the disagreement of a suite that ends early, if there is one.
-    fn push_early_end(&self, crashed: usize, notes: &mut Vec<Note>) -> Result<(), AllocError>
+    fn push_early_end(
+        &self,
+        end: Option<ProgramEnd>,
+        crashed: usize,
+        notes: &mut Vec<Note>,
+    ) -> Result<(), AllocError>
         ensures { OnOk result (map note_view notes.new.items ≡ map note_view notes.old.items
-            ++ spec.early_disagreements (state_of self.now) crashed) }
+            ++ spec.early_disagreements (state_of self.now) end crashed) }
     {
         match self.shown_name()? {
             Some(suite) if crashed == 0 => {
-                notes.push(Note::Disagreement(Disagreement::EndedEarly { suite }))?;
+                let disagreement = match self.cancel {
+                    Some(reason) => Disagreement::Cancelled(reason),
+                    None => Disagreement::EndedEarly { suite, end },
+                };
+                notes.push(Note::Disagreement(disagreement))?;
             }
             None if self.started > 0 => {
                 let started = self.started;

@@ -12,10 +12,12 @@ ghost use Rattle.test_report_run.specs.Run.{run_settings, run_state};
 
 mod command;
 mod lines;
+mod programs;
 pub mod progress;
 mod suites;
 mod test_lines;
 
+use crate::early::Ending;
 use crate::error::{RunError, one_more};
 use crate::headings::Headings;
 use crate::longest_end::LongestEnd;
@@ -85,6 +87,9 @@ pub struct TestRun {
     totals: Totals,
     disagreements: usize,
 
+    /// How many disagreements say that the run was cancelled.
+    cancels: usize,
+
     /// The number of failed tests and disagreements until now, until the file began, and until the last
     /// failure of cargo outside of a suite. They decide whether a failure of cargo is explained. Failures of cargo
     /// are counted before they become known.
@@ -144,6 +149,7 @@ impl TestRun {
             ended: 0,
             totals: Totals::new(),
             disagreements: 0,
+            cancels: 0,
             causes: 0,
             causes_at_file: 0,
             causes_at_cargo: 0,
@@ -204,26 +210,12 @@ impl TestRun {
         let mut notes = Vec::new(alloc);
         self.settle(false, &mut notes)?;
         self.tell_held(alloc, &mut notes)?;
-        self.end_suites(alloc, &mut notes)?;
+        self.end_suites(alloc, &Ending::unknown(), &mut notes)?;
         self.push_no_event(&mut notes)?;
         self.learn(&notes)?;
         self.end_command(&mut notes)?;
         self.begin_file(alloc);
         Ok(notes)
-    }
-
-    /// Ends the open suites early, and then the tests outside of a suite. Fails if memory runs out, or a number of a
-    /// suite does not fit.
-    fn end_suites(&mut self, alloc: Global, notes: &mut Vec<Note>) -> Result<(), RunError>
-        ensures takes { OnOk result (run_state self.new ≡ (ends.all_ended_early (run_state self.old)).run) }
-        ensures tells { OnOk result (map note_view notes.new.items ≡ map note_view notes.old.items
-            ++ (ends.all_ended_early (run_state self.old)).notes) }
-    {
-        for suite in self.suites.take_all(alloc) {
-            self.end_early(alloc, Box::into_inner(suite), notes)?;
-        }
-        let outside = std::mem::replace(&mut self.outside, Suite::outside(alloc));
-        self.end_early(alloc, outside, notes)
     }
 
     /// Forgets what is kept of the lines of a file, before the next one.
@@ -277,7 +269,7 @@ impl TestRun {
     pub fn end(&self) -> RunEnd
         ensures { result ≡ ends.end_of (run_state self.now) }
     {
-        self.totals.end(self.disagreements)
+        self.totals.end(self.disagreements, self.cancels)
     }
 
     /// Takes an event if there is one, and appends its notes.
@@ -424,6 +416,9 @@ impl TestRun {
             }
             Note::Disagreement(disagreement) => {
                 self.disagreements = one_more(self.disagreements)?;
+                if matches!(disagreement, Disagreement::Cancelled(_)) {
+                    self.cancels = one_more(self.cancels)?;
+                }
                 if is_new(disagreement) {
                     self.causes = one_more(self.causes)?;
                 }

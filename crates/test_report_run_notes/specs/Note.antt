@@ -3,8 +3,9 @@ use Rattle.std.specs.Prelude.{◌==◌, ◌-◌, ℕ, List, Bool, false, true, m
 use Rattle.std.specs.declared.alloc.Global.{Global}
 use Rattle.run_events_results.specs.declared.results.CancelReason.{CancelReason}
 use Rattle.run_events_stats.specs.declared.stats.RunStats.{RunStats}
-use Rattle.test_report_events.specs.Event.{BySignal, CommandView, NotStarted, WithStatus}
+use Rattle.test_report_events.specs.Event.{BySignal, CommandView, EndsUnexplained, EndsUnstarted, IsCutOff, NeverEnds, NotStarted, ProgramFaultView, RunsNoTest, WithError, WithStatus}
 use Rattle.test_report_events.specs.declared.event.TestResult.{TestResult}
+use Rattle.test_report_events.specs.declared.program.ProgramEnd.{ProgramEnd}
 use Rattle.test_report_run_notes.specs.declared.note.CargoReport.{CargoReport}
 use Rattle.test_report_run_notes.specs.declared.note.CommandEnd.{CommandEnd}
 use Rattle.test_report_run_notes.specs.declared.note.CommandEnd.TheVariants as command
@@ -16,17 +17,21 @@ use Rattle.test_report_run_notes.specs.declared.note.FailureKind.{FailureKind}
 use Rattle.test_report_run_notes.specs.declared.note.FailureKind.TheVariants as kind
 use Rattle.test_report_run_notes.specs.declared.note.Note.{Note}
 use Rattle.test_report_run_notes.specs.declared.note.Note.TheVariants as note
+use Rattle.test_report_run_notes.specs.declared.note.ProgramFault.{ProgramFault}
+use Rattle.test_report_run_notes.specs.declared.note.ProgramFault.TheVariants as fault
 use Rattle.test_report_run_notes.specs.declared.note.SaidNumbers.{SaidNumbers}
 use Rattle.test_report_run_notes.specs.declared.note.SuiteNote.{SuiteNote}
 use Rattle.test_report_run_notes.specs.declared.note.TestNote.{TestNote}
 use Rattle.test_report_run_notes.specs.declared.note.TestOutcome.{TestOutcome}
 use Rattle.test_report_run_notes.specs.declared.note.TestOutcome.TheVariants as outcome
 
--- How a test crashed: how many tests ran, and whether its suite has a key. The line in which cargo names the cause, the text of the prints, and the last
--- three of these that are not blank may say why. The last field says whether another test of the suite crashed before it.
+-- How a test crashed: how many tests crashed so, whether its suite has a key, and how its program ended, if that is known. The line in which cargo names
+-- the cause, the text of the prints, and the last three of these that are not blank may say why. The last field says whether another test of the suite
+-- crashed before it.
 pub record CrashView : Type 0 where
   pub running : ℕ
   pub has_key : Bool
+  pub end : Option ProgramEnd
   pub cause : Option (List ℕ)
   pub prints : List ℕ
   pub last : List (List ℕ)
@@ -47,10 +52,12 @@ pub record FailureView : Type 0 where
   pub message : Option (List ℕ)
   pub reason : Option (List ℕ)
 
--- how a test counts. One that passed may have output, and a skipped one a reason
+-- how a test counts. One that passed may have output, and a skipped one a reason. One that was stopped ran when its suite ended early and did not crash: it
+-- counts as not run
 pub data OutcomeView : Type 0 where
   Passes : Option (List ℕ) → OutcomeView
   IsSkipped : Option (List ℕ) → OutcomeView
+  IsStopped : OutcomeView
   Fails : FailureView → OutcomeView
 
 -- a test, and how it counts
@@ -74,7 +81,8 @@ pub record CargoView : Type 0 where
 
 -- a contradiction between lines
 pub data DisagreementView : Type 0 where
-  EndsEarly : List ℕ → DisagreementView
+  -- the name of the suite, and how its program ended, if that is known
+  EndsEarly : List ℕ → Option ProgramEnd → DisagreementView
   SaysOther : List ℕ → SaidNumbers → ℕ → ℕ → DisagreementView
   StrayEnds : List ℕ → TestResult → DisagreementView
   StraySuiteEnds : Option (List ℕ) → Bool → DisagreementView
@@ -84,6 +92,9 @@ pub data DisagreementView : Type 0 where
   -- the name of the file, if the files of the run have names
   HasNoEvent : Option (List ℕ) → DisagreementView
   CommandFails : CommandView → DisagreementView
+  OfProgram : ProgramFaultView → DisagreementView
+  -- the run was cancelled for this reason, and something did not end as it would have
+  WasCancelled : CancelReason → DisagreementView
 
 -- a suite that is over
 pub record SuiteNoteView : Type 0 where
@@ -113,6 +124,7 @@ abbrev pub crash_view : Crash → CrashView
 crash_view c = record {
   running = c.running;
   has_key = c.has_key;
+  end = c.end;
   cause = text_view c.cause;
   prints = string_bytes c.prints.value;
   last = map string_bytes c.last.items;
@@ -140,6 +152,7 @@ failure_view f = record {
 abbrev pub outcome_view : TestOutcome → OutcomeView
 outcome_view (outcome.Passed output) = Passes (text_view output)
 outcome_view (outcome.Skipped reason) = IsSkipped (text_view reason)
+outcome_view outcome.Stopped = IsStopped
 outcome_view (outcome.Failed failure) = Fails (failure_view failure)
 
 -- what the note of a test says
@@ -164,10 +177,19 @@ abbrev pub command_view : CommandEnd → CommandView
 command_view (command.NotStarted error) = NotStarted (string_bytes error)
 command_view (command.Signal number) = BySignal number
 command_view (command.Status code) = WithStatus code
+command_view (command.Error code words) = WithError code (string_bytes words)
+
+-- why the lines of programs disagree
+abbrev pub fault_view : ProgramFault → ProgramFaultView
+fault_view (fault.Unexplained program end) = EndsUnexplained (string_bytes program) end
+fault_view (fault.NoTests program) = RunsNoTest (string_bytes program)
+fault_view (fault.NoEnd program) = NeverEnds (string_bytes program)
+fault_view (fault.NotStarted end) = EndsUnstarted end
+fault_view fault.CutOff = IsCutOff
 
 -- what a disagreement says
 abbrev pub disagreement_view : Disagreement → DisagreementView
-disagreement_view (disagreement.EndedEarly suite) = EndsEarly (string_bytes suite.value)
+disagreement_view (disagreement.EndedEarly suite end) = EndsEarly (string_bytes suite.value) end
 disagreement_view (disagreement.LastLine suite said passed failed) = SaysOther (string_bytes suite.value) said passed failed
 disagreement_view (disagreement.StrayEnd name outcome) = StrayEnds (string_bytes name) outcome
 disagreement_view (disagreement.StraySuiteEnd key failed) = StraySuiteEnds (text_view key) failed
@@ -176,6 +198,8 @@ disagreement_view (disagreement.Cargo report) = CargoSays (cargo_view report)
 disagreement_view (disagreement.Damaged text) = IsDamaged (string_bytes text)
 disagreement_view (disagreement.NoEvent file) = HasNoEvent (text_view file)
 disagreement_view (disagreement.Command end) = CommandFails (command_view end)
+disagreement_view (disagreement.Program fault) = OfProgram (fault_view fault)
+disagreement_view (disagreement.Cancelled reason) = WasCancelled reason
 
 -- what the note of a suite says
 abbrev pub suite_view : SuiteNote → SuiteNoteView
@@ -202,6 +226,7 @@ ended_well None = false
 ended_well (Some (NotStarted error)) = false
 ended_well (Some (BySignal number)) = false
 ended_well (Some (WithStatus code)) = code == 0
+ended_well (Some (WithError code words)) = false
 
 -- the command could not be started
 abbrev pub was_not_started : Option CommandView → Bool
@@ -209,10 +234,11 @@ was_not_started None = false
 was_not_started (Some (NotStarted error)) = true
 was_not_started (Some (BySignal number)) = false
 was_not_started (Some (WithStatus code)) = false
+was_not_started (Some (WithError code words)) = false
 
 -- a disagreement is counted when it becomes known. Failures of cargo are counted at their lines, and that a file has no event explains nothing
 abbrev pub is_new_disagreement : DisagreementView → Bool
-is_new_disagreement (EndsEarly suite) = true
+is_new_disagreement (EndsEarly suite end) = true
 is_new_disagreement (SaysOther suite said passed failed) = true
 is_new_disagreement (StrayEnds name how) = true
 is_new_disagreement (StraySuiteEnds key failed) = true
@@ -221,6 +247,8 @@ is_new_disagreement (CargoSays report) = false
 is_new_disagreement (IsDamaged text) = true
 is_new_disagreement (HasNoEvent file) = false
 is_new_disagreement (CommandFails end) = true
+is_new_disagreement (OfProgram fault) = true
+is_new_disagreement (WasCancelled reason) = true
 
 -- how many tests failed
 abbrev pub failed_of : RunStats → ℕ

@@ -8,6 +8,7 @@ use run_events_stats::outcome::RunOutcome;
 use run_events_stats::stats::RunStats;
 use std::rc::Rc;
 use test_report_events::event::TestResult;
+use test_report_events::program::ProgramEnd;
 
 /// A fact about a run that a line, or the end of a file, makes known.
 #[derive(Debug, Drop)]
@@ -55,7 +56,7 @@ pub struct TestNote {
     /// The reason why the run had been cancelled when this became known, if it had been.
     pub cancel: Option<CancelReason>,
 
-    /// Whether the test passed, failed or was skipped.
+    /// Whether the test passed, failed, was skipped or was stopped.
     pub outcome: TestOutcome,
 }
 
@@ -73,6 +74,10 @@ pub enum TestOutcome {
         /// The reason in the line that says so, if it has one.
         reason: Option<String>,
     },
+
+    /// The test ran when its suite ended early, and did not crash: the run was cancelled, or another test crashed. It
+    /// counts as not run.
+    Stopped,
 
     /// The test failed.
     Failed(Failure),
@@ -116,11 +121,14 @@ pub enum FailureKind {
 /// How a test crashed.
 #[derive(Debug, Drop)]
 pub struct Crash {
-    /// The number of tests of the suite that were running then, including this one.
+    /// The number of tests of the suite that crashed then, including this one.
     pub running: usize,
 
     /// True if the suite has a key. Then each of its tests ran in a process of its own.
     pub has_key: bool,
+
+    /// How the program of the suite ended, if a line says so.
+    pub end: Option<ProgramEnd>,
 
     /// The line after `Caused by:`, in which cargo names the signal, or its first 200 bytes.
     pub cause: Option<String>,
@@ -145,6 +153,9 @@ pub enum Disagreement {
     EndedEarly {
         /// The name of the suite.
         suite: Rc<String>,
+
+        /// How the program of the suite ended, if a line says so.
+        end: Option<ProgramEnd>,
     },
 
     /// The last line of a suite has other numbers or another verdict than the lines of its tests.
@@ -204,6 +215,48 @@ pub enum Disagreement {
     /// The command of the run could not be started, ended by a signal, or ended with a status above 0 although
     /// nothing failed or disagreed.
     Command(CommandEnd),
+
+    /// The lines of programs contradict each other, or a program did not end as it should have.
+    Program(ProgramFault),
+
+    /// The run was cancelled, and because of that a suite, a program or the command did not end as it would have. In
+    /// such a run this takes the place of the contradiction that it would be otherwise.
+    Cancelled(CancelReason),
+}
+
+/// What is wrong with the lines of programs.
+#[derive(Debug, Drop)]
+pub enum ProgramFault {
+    /// A program ended with a status other than 0 or by a signal, and nothing that became known since it started says
+    /// why.
+    Unexplained {
+        /// The name of the program.
+        program: String,
+
+        /// How it ended.
+        end: ProgramEnd,
+    },
+
+    /// A program ended with status 0, and ran no test.
+    NoTests {
+        /// The name of the program.
+        program: String,
+    },
+
+    /// No line says how a program ended, and nothing else became known that is wrong with it.
+    NoEnd {
+        /// The name of the program.
+        program: String,
+    },
+
+    /// A program ended in this way while none ran.
+    NotStarted {
+        /// How it ended.
+        end: ProgramEnd,
+    },
+
+    /// No line says how the command ended.
+    CutOff,
 }
 
 /// A failure that cargo or nextest reports.
@@ -244,6 +297,15 @@ pub enum CommandEnd {
     Status {
         /// The exit status.
         code: u32,
+    },
+
+    /// The command exited with a status other than 0, and said why.
+    Error {
+        /// The exit status.
+        code: u32,
+
+        /// The words of the command.
+        words: String,
     },
 }
 

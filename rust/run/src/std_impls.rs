@@ -1,5 +1,6 @@
 //! Traits of `std` for the types of this crate.
 
+use crate::programs::run::ProgramRun;
 use crate::run::error::RunError;
 use crate::run::run::TestRun;
 use crate::run::suite_names::SuiteNames;
@@ -22,6 +23,15 @@ impl fmt::Debug for TestRun {
     fn fmt(&self, f: &mut fmt::Formatter<'_>) -> fmt::Result {
         f.debug_struct("TestRun")
             .field("numbers", &self.numbers())
+            .finish_non_exhaustive()
+    }
+}
+
+/// Writes the numbers of the run up to now.
+impl fmt::Debug for ProgramRun {
+    fn fmt(&self, f: &mut fmt::Formatter<'_>) -> fmt::Result {
+        f.debug_struct("ProgramRun")
+            .field("numbers", &self.run().numbers())
             .finish_non_exhaustive()
     }
 }

@@ -35,7 +35,7 @@ impl TestRun {
     }
 
     /// Notes how the command ended whose output was read, if the lines are the output of one.
-    pub(crate) fn on_command_ended(&mut self, command: Option<CommandEnd>)
+    pub fn on_command_ended(&mut self, command: Option<CommandEnd>)
         ensures { run_state self.new ≡ ends.with_command (run_state self.old) (option_map command_view command) }
     {
         if let Some(end) = command {
@@ -94,7 +94,8 @@ impl TestRun {
             return Ok(());
         };
         if command_fails(self.causes, &end) {
-            let note = Note::Disagreement(Disagreement::Command(end));
+            let disagreement = self.unless_cancelled(Disagreement::Command(end));
+            let note = Note::Disagreement(disagreement);
             self.learn_note(&note)?;
             notes.push(note)?;
         }
@@ -126,5 +127,6 @@ fn command_fails(causes: usize, end: &CommandEnd) -> bool
     match end {
         CommandEnd::NotStarted { .. } | CommandEnd::Signal { .. } => true,
         CommandEnd::Status { code } => *code != 0 && causes == 0,
+        CommandEnd::Error { .. } => causes == 0,
     }
 }

@@ -4,11 +4,12 @@ ghost use Rattle.std.specs.Prelude.{◌≡◌, ◌++◌, ◌+◌, ◌<◌, ◌==
 ghost use Rattle.std.specs.List.{remove};
 ghost use Rattle.test_report_events.specs.Event.{suite_end_view, text_of_key};
 ghost use Rattle.test_report_run_notes.specs.Note.{note_view, text_view};
-ghost use Rattle.test_report_run.specs.Over.{last_notes};
+ghost use Rattle.test_report_run.specs.Over.{early_end_of, last_notes};
 ghost use Rattle.test_report_run.specs.Run as spec;
 ghost use Rattle.test_report_run.specs.Run.{run_state};
 ghost use Rattle.test_report_run.specs.Suite.{cancelled_by, has_key, joined_by, state_of, with_line};
 
+use crate::early::Ending;
 use crate::error::{RunError, one_more};
 use crate::run::TestRun;
 use crate::suite::Suite;
@@ -60,7 +61,7 @@ impl TestRun {
             self.join(test_count, at)
         } else {
             let suite = self.take_out(at);
-            self.end_early(alloc, suite, notes)?;
+            self.end_early(alloc, &Ending::unknown(), suite, notes)?;
             self.open(alloc, key, test_count)
         }
     }
@@ -195,15 +196,17 @@ impl TestRun {
     pub(crate) fn end_early(
         &mut self,
         alloc: Global,
+        how: &Ending,
         mut suite: Suite,
         notes: &mut Vec<Note>,
     ) -> Result<(), RunError>
         ensures { OnOk result (spec.step (run_state self.new) (map note_view notes.new.items)
-            ≡ spec.ended_early (spec.step (run_state self.old) (map note_view notes.old.items)) (state_of suite)) }
+            ≡ spec.ended_early (early_end_of how.now) (spec.step (run_state self.old) (map note_view notes.old.items))
+            (state_of suite)) }
     {
         let left = self.running.take_suite(alloc, suite.name.number)?;
         suite.cancel = self.cancel;
-        suite.end_early(alloc, &self.others, left, notes)
+        suite.end_early(alloc, &self.others, how, left, notes)
     }
 
     /// Returns the position of the first open suite with a key, or without a key.

@@ -2,13 +2,15 @@
 
 ghost use Rattle.std.specs.Prelude.{◌≡◌, ◌≤◌, ◌<◌, ◌++◌, ◌∷◌, [], ◌+◌, ℕ, List, true, false, filter, not, IfNone, IfOk, IfSome, MatchOption, OnOk, option_map, slice_get};
 ghost use Rattle.std.specs.BTreeMap.{get, is_at};
-ghost use Rattle.std.specs.List.{position, remove};
+ghost use Rattle.std.specs.List.{list_any, position, remove};
 ghost use Rattle.std.specs.Map.{remove_entry, set_value};
 ghost use Rattle.std.specs.Option.{option_map_or};
 ghost use Rattle.std.specs.Ordering.{nat_cmp};
 ghost use Rattle.test_report_run.specs.Orders.{is_in_suite};
+ghost use Rattle.test_report_run.specs.Over.{is_among, names_of};
 ghost use Rattle.test_report_run.specs.Running.{CountsAttempts, RunningView, ended_at, has_name, is_of, place_of_end, running_at, running_test_view, running_view, split_of, tests_of, with_slow};
 
+use crate::early::is_among;
 use crate::error::{RunError, one_more};
 use crate::running::names::NameOrders;
 use crate::running::{Running, RunningTest};
@@ -111,6 +113,13 @@ impl Running {
     {
         let (_, test) = self.tests.first_key_value()?;
         Some(test)
+    }
+
+    /// Returns true if a running test has one of these names.
+    pub(crate) fn has_one_of(&self, names: &BTreeSet<String>) -> bool
+        ensures { result ≡ list_any (is_among (names_of names.now)) (tests_of self.now) }
+    {
+        self.tests.values().any(|test| is_among(names, test))
     }
 
     /// Removes the tests of a suite, and returns them in the order in which they started.

@@ -2,6 +2,7 @@
 //! The notes that the lines of a run make known, and the end of a run.
 
 use crate::events::event::TestResult;
+use crate::events::program::ProgramEnd;
 use deodarsieve::{CancelReason, RunOutcome, RunStats};
 use std::rc::Rc;
 
@@ -51,7 +52,7 @@ pub struct TestNote {
     /// The reason why the run had been cancelled when this became known, if it had been.
     pub cancel: Option<CancelReason>,
 
-    /// Whether the test passed, failed or was skipped.
+    /// Whether the test passed, failed, was skipped or was stopped.
     pub outcome: TestOutcome,
 }
 
@@ -69,6 +70,10 @@ pub enum TestOutcome {
         /// The reason in the line that says so, if it has one.
         reason: Option<String>,
     },
+
+    /// The test ran when its suite ended early, and did not crash: the run was cancelled, or another test crashed. It
+    /// counts as not run.
+    Stopped,
 
     /// The test failed.
     Failed(Failure),
@@ -112,11 +117,14 @@ pub enum FailureKind {
 /// How a test crashed.
 #[derive(Clone, Debug)]
 pub struct Crash {
-    /// The number of tests of the suite that were running then, including this one.
+    /// The number of tests of the suite that crashed then, including this one.
     pub running: usize,
 
     /// True if the suite has a key. Then each of its tests ran in a process of its own.
     pub has_key: bool,
+
+    /// How the program of the suite ended, if a line says so.
+    pub end: Option<ProgramEnd>,
 
     /// The line after `Caused by:`, in which cargo names the signal, or its first 200 bytes.
     pub cause: Option<String>,
@@ -141,6 +149,9 @@ pub enum Disagreement {
     EndedEarly {
         /// The name of the suite.
         suite: Rc<String>,
+
+        /// How the program of the suite ended, if a line says so.
+        end: Option<ProgramEnd>,
     },
 
     /// The last line of a suite has other numbers or another verdict than the lines of its tests.
@@ -200,6 +211,48 @@ pub enum Disagreement {
     /// The command of the run could not be started, ended by a signal, or ended with a status above 0 although
     /// nothing failed or disagreed.
     Command(CommandEnd),
+
+    /// The lines of programs contradict each other, or a program did not end as it should have.
+    Program(ProgramFault),
+
+    /// The run was cancelled, and because of that a suite, a program or the command did not end as it would have. In
+    /// such a run this takes the place of the contradiction that it would be otherwise.
+    Cancelled(CancelReason),
+}
+
+/// What is wrong with the lines of programs.
+#[derive(Clone, Debug)]
+pub enum ProgramFault {
+    /// A program ended with a status other than 0 or by a signal, and nothing that became known since it started says
+    /// why.
+    Unexplained {
+        /// The name of the program.
+        program: String,
+
+        /// How it ended.
+        end: ProgramEnd,
+    },
+
+    /// A program ended with status 0, and ran no test.
+    NoTests {
+        /// The name of the program.
+        program: String,
+    },
+
+    /// No line says how a program ended, and nothing else became known that is wrong with it.
+    NoEnd {
+        /// The name of the program.
+        program: String,
+    },
+
+    /// A program ended in this way while none ran.
+    NotStarted {
+        /// How it ended.
+        end: ProgramEnd,
+    },
+
+    /// No line says how the command ended.
+    CutOff,
 }
 
 /// A failure that cargo or nextest reports.
@@ -240,6 +293,15 @@ pub enum CommandEnd {
     Status {
         /// The exit status.
         code: u32,
+    },
+
+    /// The command exited with a status other than 0, and said why.
+    Error {
+        /// The exit status.
+        code: u32,
+
+        /// The words of the command.
+        words: String,
     },
 }
 

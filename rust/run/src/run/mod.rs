@@ -37,6 +37,7 @@
 
 mod counted;
 mod cuts;
+pub mod early;
 mod ended;
 pub mod error;
 mod flaky;

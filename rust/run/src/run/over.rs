@@ -1,11 +1,13 @@
 // Made by tools/erase from crates/test_report_run/src/over.rt. Do not edit.
 //! A suite that is over.
 
+use crate::events::program::ProgramEnd;
 use crate::notes::finish::Finish;
 use crate::notes::note::{
     Crash, Disagreement, Failure, FailureKind, NotRun, Note, SuiteNote, TestOutcome, failed_count,
 };
 use crate::run::counted::count;
+use crate::run::early::Ending;
 use crate::run::error::{RunError, one_more};
 use crate::run::flaky::FlakyTests;
 use crate::run::last_line::{Explanation, disagrees, explained};
@@ -37,6 +39,7 @@ fn copy_of(crash: &Crash) -> Crash {
     Crash {
         running: crash.running,
         has_key: crash.has_key,
+        end: crash.end,
         cause,
         prints: crash.prints.clone(),
         last,
@@ -65,39 +68,64 @@ impl Suite {
         }
     }
 
-    /// Ends the suite without a last line, and adds its notes. `left` are its running tests, which crashed. `others`
-    /// are the lines of the file that are no events. Fails if memory runs out, or a number of the suite does not
-    /// fit.
+    /// Ends the suite without a last line, and adds its notes. `left` are its running tests, and `how` says which of
+    /// them crashed. `others` are the lines of the file that are no events. Fails if memory runs out, or a number of the
+    /// suite does not fit.
     pub(crate) fn end_early(
         mut self,
         others: &Others,
+        how: &Ending,
         left: Vec<RunningTest>,
         notes: &mut Vec<Note>,
     ) -> Result<(), RunError> {
-        let crashed = left.len();
-        self.crash_left(others, left, notes)?;
+        let (crashed, stopped) = self.parted(how, left);
+        let (crashes, left) = (crashed.len(), stopped.len());
+        self.crash_left(others, how.end, crashed, notes)?;
+        self.stop_all(stopped, notes);
         self.release_flaky(false, notes)?;
-        self.push_early_end(crashed, notes);
+        self.push_early_end(how.end, crashes, notes);
         let rest = Rest {
             skipped: self.skipped as u128,
-            left: 0,
+            left,
             time: self.time,
         };
         self.push_numbers(rest, notes);
         Ok(())
     }
 
-    /// Counts the running tests of the suite as crashed. `others` are the lines of the file that are no events.
+    /// Returns those of the running tests of the suite that crashed, and those that were stopped.
+    fn parted(&self, how: &Ending, left: Vec<RunningTest>) -> (Vec<RunningTest>, Vec<RunningTest>) {
+        let (mut crashed, mut stopped) = (Vec::new(), Vec::new());
+        for test in left {
+            if self.cancel.is_none() && how.crashes(&test) {
+                crashed.push(test);
+            } else {
+                stopped.push(test);
+            }
+        }
+        (crashed, stopped)
+    }
+
+    /// Adds that tests without end were stopped.
+    fn stop_all(&self, tests: Vec<RunningTest>, notes: &mut Vec<Note>) {
+        for test in tests {
+            notes.push(self.note(self.over(test), TestOutcome::Stopped));
+        }
+    }
+
+    /// Counts running tests of the suite as crashed. `others` are the lines of the file that are no events, and `end` is
+    /// how the program ended.
     fn crash_left(
         &mut self,
         others: &Others,
+        end: Option<ProgramEnd>,
         mut left: Vec<RunningTest>,
         notes: &mut Vec<Note>,
     ) -> Result<(), RunError> {
         if left.is_empty() {
             return Ok(());
         }
-        let mut crash = self.crash(others, left.len());
+        let mut crash = self.crash(others, end, left.len());
         let later = left.split_off(1);
         self.crash_all(&crash, left, notes)?;
         crash.above = true;
@@ -119,11 +147,12 @@ impl Suite {
         Ok(())
     }
 
-    /// Returns how the first test of the suite crashed. `running` is the number of its running tests.
-    fn crash(&self, others: &Others, running: usize) -> Crash {
+    /// Returns how the first test of the suite crashed. `running` is the number of its tests that crashed.
+    fn crash(&self, others: &Others, end: Option<ProgramEnd>, running: usize) -> Crash {
         Crash {
             running,
             has_key: self.name.key.is_some(),
+            end,
             cause: others.cause_after(self.last_event),
             prints: Rc::new(others.prints_from(self.start)),
             last: others.last_prints_from(self.start),
@@ -150,10 +179,14 @@ impl Suite {
     }
 
     /// Adds the disagreement of a suite that ends early, if there is one.
-    fn push_early_end(&self, crashed: usize, notes: &mut Vec<Note>) {
+    fn push_early_end(&self, end: Option<ProgramEnd>, crashed: usize, notes: &mut Vec<Note>) {
         match self.shown_name() {
             Some(suite) if crashed == 0 => {
-                notes.push(Note::Disagreement(Disagreement::EndedEarly { suite }));
+                let disagreement = match self.cancel {
+                    Some(reason) => Disagreement::Cancelled(reason),
+                    None => Disagreement::EndedEarly { suite, end },
+                };
+                notes.push(Note::Disagreement(disagreement));
             }
             None if self.started > 0 => {
                 let started = self.started;

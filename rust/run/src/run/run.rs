@@ -3,6 +3,7 @@
 
 mod command;
 mod lines;
+mod programs;
 pub mod progress;
 mod suites;
 mod test_lines;
@@ -10,6 +11,7 @@ mod test_lines;
 use crate::events::event::Event;
 use crate::events::line::Line;
 use crate::notes::note::{CargoReport, CommandEnd, Disagreement, Note, RunEnd, TestOutcome};
+use crate::run::early::Ending;
 use crate::run::error::{RunError, one_more};
 use crate::run::headings::Headings;
 use crate::run::longest_end::LongestEnd;
@@ -73,6 +75,9 @@ pub struct TestRun {
     totals: Totals,
     disagreements: usize,
 
+    /// How many disagreements say that the run was cancelled.
+    cancels: usize,
+
     /// The number of failed tests and disagreements until now, until the file began, and until the last
     /// failure of cargo outside of a suite. They decide whether a failure of cargo is explained. Failures of cargo
     /// are counted before they become known.
@@ -128,6 +133,7 @@ impl TestRun {
             ended: 0,
             totals: Totals::new(),
             disagreements: 0,
+            cancels: 0,
             causes: 0,
             causes_at_file: 0,
             causes_at_cargo: 0,
@@ -174,22 +180,12 @@ impl TestRun {
         let mut notes = Vec::new();
         self.settle(false, &mut notes);
         self.tell_held(&mut notes);
-        self.end_suites(&mut notes)?;
+        self.end_suites(&Ending::unknown(), &mut notes)?;
         self.push_no_event(&mut notes);
         self.learn(&notes)?;
         self.end_command(&mut notes)?;
         self.begin_file();
         Ok(notes)
-    }
-
-    /// Ends the open suites early, and then the tests outside of a suite. Fails if memory runs out, or a number of a
-    /// suite does not fit.
-    fn end_suites(&mut self, notes: &mut Vec<Note>) -> Result<(), RunError> {
-        for suite in self.suites.take_all() {
-            self.end_early(*suite, notes)?;
-        }
-        let outside = std::mem::replace(&mut self.outside, Suite::outside());
-        self.end_early(outside, notes)
     }
 
     /// Forgets what is kept of the lines of a file, before the next one.
@@ -229,7 +225,7 @@ impl TestRun {
 
     /// Returns the sums and the outcome of the run, up to the last file that has ended.
     pub fn end(&self) -> RunEnd {
-        self.totals.end(self.disagreements)
+        self.totals.end(self.disagreements, self.cancels)
     }
 
     /// Takes an event if there is one, and appends its notes.
@@ -328,6 +324,9 @@ impl TestRun {
             }
             Note::Disagreement(disagreement) => {
                 self.disagreements = one_more(self.disagreements)?;
+                if matches!(disagreement, Disagreement::Cancelled(_)) {
+                    self.cancels = one_more(self.cancels)?;
+                }
                 if is_new(disagreement) {
                     self.causes = one_more(self.causes)?;
                 }

@@ -39,16 +39,17 @@ impl Totals {
         Ok(())
     }
 
-    /// Returns the sums and the outcome of the run. `disagreements` is the number of contradictions. If it is
-    /// not 0, the run failed.
-    pub(crate) fn end(&self, disagreements: usize) -> RunEnd {
-        let failed = RunOutcome::Failed {
-            step: RunFailureStep::Test,
-        };
-        let outcome = if disagreements == 0 {
-            self.end.outcome
+    /// Returns the sums and the outcome of the run. `disagreements` is the number of contradictions, of which `cancels`
+    /// say that the run was cancelled. The run failed if there are others, and was cancelled if there are only these and
+    /// nothing failed.
+    pub(crate) fn end(&self, disagreements: usize, cancels: usize) -> RunEnd {
+        let step = RunFailureStep::Test;
+        let outcome = if disagreements > cancels {
+            RunOutcome::Failed { step }
+        } else if disagreements > 0 {
+            self.end.outcome.combine(RunOutcome::Cancelled { step })
         } else {
-            failed
+            self.end.outcome
         };
         RunEnd {
             outcome,

@@ -23,7 +23,7 @@ impl TestRun {
     }
 
     /// Notes how the command ended whose output was read, if the lines are the output of one.
-    pub(crate) fn on_command_ended(&mut self, command: Option<CommandEnd>) {
+    pub fn on_command_ended(&mut self, command: Option<CommandEnd>) {
         if let Some(end) = command {
             self.command = Some(end);
         }
@@ -61,7 +61,8 @@ impl TestRun {
             return Ok(());
         };
         if command_fails(self.causes, &end) {
-            let note = Note::Disagreement(Disagreement::Command(end));
+            let disagreement = self.unless_cancelled(Disagreement::Command(end));
+            let note = Note::Disagreement(disagreement);
             self.learn_note(&note)?;
             notes.push(note);
         }
@@ -83,5 +84,6 @@ fn command_fails(causes: usize, end: &CommandEnd) -> bool {
     match end {
         CommandEnd::NotStarted { .. } | CommandEnd::Signal { .. } => true,
         CommandEnd::Status { code } => *code != 0 && causes == 0,
+        CommandEnd::Error { .. } => causes == 0,
     }
 }

@@ -3,6 +3,7 @@
 
 use crate::events::event::{SuiteEnd, SuiteKey};
 use crate::notes::note::{Disagreement, Note};
+use crate::run::early::Ending;
 use crate::run::error::RunError;
 use crate::run::run::TestRun;
 use crate::run::suite::Suite;
@@ -37,7 +38,7 @@ impl TestRun {
             self.join(test_count, at)
         } else {
             let suite = self.take_out(at);
-            self.end_early(suite, notes)?;
+            self.end_early(&Ending::unknown(), suite, notes)?;
             self.open(key, test_count)
         }
     }
@@ -118,12 +119,13 @@ impl TestRun {
     /// Ends a suite that has no last line.
     pub(crate) fn end_early(
         &mut self,
+        how: &Ending,
         mut suite: Suite,
         notes: &mut Vec<Note>,
     ) -> Result<(), RunError> {
         let left = self.running.take_suite(suite.name.number);
         suite.cancel = self.cancel;
-        suite.end_early(&self.others, left, notes)
+        suite.end_early(&self.others, how, left, notes)
     }
 
     /// Returns the position of the first open suite with a key, or without a key.

@@ -1,6 +1,7 @@
 // Made by tools/erase from crates/test_report_run/src/running/changes.rt. Do not edit.
 //! What starts and ends running tests.
 
+use crate::run::early::is_among;
 use crate::run::error::{RunError, one_more};
 use crate::run::running::names::NameOrders;
 use crate::run::running::{Running, RunningTest};
@@ -79,6 +80,11 @@ impl Running {
     pub(crate) fn first(&self) -> Option<&RunningTest> {
         let (_, test) = self.tests.first_key_value()?;
         Some(test)
+    }
+
+    /// Returns true if a running test has one of these names.
+    pub(crate) fn has_one_of(&self, names: &BTreeSet<String>) -> bool {
+        self.tests.values().any(|test| is_among(names, test))
     }
 
     /// Removes the tests of a suite, and returns them in the order in which they started.

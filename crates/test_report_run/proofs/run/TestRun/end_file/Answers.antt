@@ -8,7 +8,8 @@ use Rattle.test_report_run.proofs.run.TestRun.end_file.Goals as goal
 
 pub returns-clause-tells : goal.returns-clause-tells
 returns-clause-tells c =
-    let known = known-first (run_state c.args.self.now) _ _ _ _ _ _ _ _ (ap (map note_view) c.new-notes.ensures.items) c.in_ok-settle.ensures.takes
+    let known = known-first _ (run_state c.args.self.now) _ _ _ _ _ _ _ _ c.unknown.ensures (ap (map note_view) c.new-notes.ensures.items)
+    c.in_ok-settle.ensures.takes
     c.in_ok-settle.ensures.tells c.in_ok-tell_held.ensures.takes c.in_ok-tell_held.ensures.tells c.in_ok-end_suites.ensures.takes
     c.in_ok-end_suites.ensures.tells c.in_ok-push_no_event.ensures in
     file-tells (run_state c.args.self.now) _ _ _ _ known
@@ -17,7 +18,8 @@ returns-clause-tells c =
 
 pub returns-clause-takes : goal.returns-clause-takes
 returns-clause-takes c =
-    let known = known-first (run_state c.args.self.now) _ _ _ _ _ _ _ _ (ap (map note_view) c.new-notes.ensures.items) c.in_ok-settle.ensures.takes
+    let known = known-first _ (run_state c.args.self.now) _ _ _ _ _ _ _ _ c.unknown.ensures (ap (map note_view) c.new-notes.ensures.items)
+    c.in_ok-settle.ensures.takes
     c.in_ok-settle.ensures.tells c.in_ok-tell_held.ensures.takes c.in_ok-tell_held.ensures.tells c.in_ok-end_suites.ensures.takes
     c.in_ok-end_suites.ensures.tells c.in_ok-push_no_event.ensures in
     file-takes (run_state c.args.self.now) _ (run_state c.learn.new.self) (run_state c.end_command.new.self) _ _ known

@@ -3,7 +3,8 @@ use Rattle.std.proofs.Common.{◌≡◌, ◌∙◌, None, Some, ap, map, sym, tr
 use Rattle.std.proofs.lemmas.List.Quantifiers.{position-Some}
 use Rattle.std.proofs.lemmas.Result.{on_ok_weaker}
 use Rattle.test_report_run_notes.specs.Note.{note_view, text_view}
-use Rattle.test_report_run.specs.Run.{Step, open_suite, run_state, step, suite_at}
+use Rattle.test_report_run.specs.Over.{EarlyEnd}
+use Rattle.test_report_run.specs.Run.{Step, ended_early, open_suite, run_state, step, suite_at}
 use Rattle.test_report_run.specs.Suite.{SuiteState, has_key, state_of}
 use Rattle.test_report_run.proofs.OpenSteps.{own-key}
 use Rattle.test_report_run.proofs.Runs.{again-tells, no-key}
@@ -25,5 +26,7 @@ returns-in_ok-end_early-clause-tells c =
     let out = c.take_out-suite.ensures in
     let told = again-tells (run_state c.args.self.now) (run_state c.take_out-suite.new.self) (text_view c.args.key) c.args.test_count c.args.at
     (state_of c.take_out-suite.result) (step (run_state c.end_early.new.self) (map note_view c.end_early.new.notes.items))
-    (map note_view c.args.notes.now.items) (no-key c.args.key (cc)) out.suite out.left c.in_ok-end_early.ensures in
+    (map note_view c.args.notes.now.items) (no-key c.args.key (cc)) out.suite out.left
+    (c.in_ok-end_early.ensures ∙ ap (λ (how : EarlyEnd). ended_early how (step (run_state c.take_out-suite.new.self) (map note_view c.args.notes.now.items))
+    (state_of c.take_out-suite.result)) c.unknown.ensures) in
     on_ok_weaker c.open.result (λ opens. told) c.open.ensures.takes

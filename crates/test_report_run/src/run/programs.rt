@@ -1,0 +1,110 @@
+//! The end of a program whose tests the lines of a run are of.
+
+ghost use Rattle.std.specs.Prelude.{◌≡◌, ◌++◌, IfOk, OnOk, map};
+ghost use Rattle.test_report_events.specs.Event.{AllEndEarly, ProgramDisagrees};
+ghost use Rattle.test_report_run_notes.specs.Note.{disagreement_view, fault_view, note_view};
+ghost use Rattle.test_report_run.specs.Over.{early_end_of, early_view};
+ghost use Rattle.test_report_run.specs.Run as spec;
+ghost use Rattle.test_report_run.specs.Run.{run_state};
+
+use crate::early::{EarlyEnd, Ending};
+use crate::error::RunError;
+use crate::run::TestRun;
+use crate::suite::Suite;
+use std::alloc::Global;
+use test_report_run_notes::note::{Disagreement, Note, ProgramFault};
+
+impl TestRun {
+    /// Ends all open suites early, and the tests outside of a suite, as at the end of the program whose tests run. `end` is
+    /// what is known about it. Returns the notes of that: the running tests crashed, or were stopped if the run is
+    /// cancelled or `end` names others.
+    ///
+    /// Fails if a number of the run does not fit its counter. After an error the run must not be used.
+    pub fn on_all_ended_early(
+        &mut self,
+        alloc: Global,
+        end: EarlyEnd,
+    ) -> Result<Vec<Note>, RunError>
+        ensures tells { IfOk result (λ notes. map note_view notes.items
+            ≡ spec.notes_at (run_state self.old) (AllEndEarly (early_view end))) }
+        ensures takes { OnOk result (run_state self.new
+            ≡ spec.after (run_state self.old) (AllEndEarly (early_view end))) }
+    {
+        let mut notes = Vec::new(alloc);
+        let how = self.ending(end);
+        self.end_suites(alloc, &how, &mut notes)?;
+        self.learn(&notes)?;
+        Ok(notes)
+    }
+
+    /// Returns which tests crash if all that is open ends so.
+    fn ending(&self, early: EarlyEnd) -> Ending
+        ensures { early_end_of result ≡ spec.early_end (run_state self.now) (early_view early) }
+    {
+        let EarlyEnd {
+            end,
+            overflowed,
+            panicked,
+        } = early;
+        let crashed = if self.running.has_one_of(&overflowed) {
+            Some(overflowed)
+        } else if self.running.has_one_of(&panicked) {
+            Some(panicked)
+        } else {
+            None
+        };
+        Ending { end, crashed }
+    }
+
+    /// Notes that the lines of programs disagree. Returns the note of that, which says that the run was cancelled if it
+    /// was.
+    ///
+    /// Fails if a number of the run does not fit its counter. After an error the run must not be used.
+    pub fn on_program_fault(
+        &mut self,
+        alloc: Global,
+        fault: ProgramFault,
+    ) -> Result<Vec<Note>, RunError>
+        ensures tells { IfOk result (λ notes. map note_view notes.items
+            ≡ spec.notes_at (run_state self.old) (ProgramDisagrees (fault_view fault))) }
+        ensures takes { OnOk result (run_state self.new
+            ≡ spec.after (run_state self.old) (ProgramDisagrees (fault_view fault))) }
+    {
+        let disagreement = self.unless_cancelled(Disagreement::Program(fault));
+        let note = Note::Disagreement(disagreement);
+        self.learn_note(&note)?;
+        let mut notes = Vec::new(alloc);
+        notes.push(note)?;
+        Ok(notes)
+    }
+
+    /// Returns a contradiction about the end of something, or that the run was cancelled.
+    pub(crate) fn unless_cancelled(&self, disagreement: Disagreement) -> Disagreement
+        ensures { disagreement_view result ≡ spec.unless_cancelled (run_state self.now) (disagreement_view disagreement) }
+    {
+        match self.cancel {
+            Some(reason) => Disagreement::Cancelled(reason),
+            None => disagreement,
+        }
+    }
+
+    /// Ends the open suites early, and then the tests outside of a suite. Fails if memory runs out, or a number of a
+    /// suite does not fit.
+    pub(crate) fn end_suites(
+        &mut self,
+        alloc: Global,
+        how: &Ending,
+        notes: &mut Vec<Note>,
+    ) -> Result<(), RunError>
+        ensures takes { OnOk result (run_state self.new
+            ≡ (spec.all_ended_early (early_end_of how.now) (run_state self.old)).run) }
+        ensures tells { OnOk result (map note_view notes.new.items ≡ map note_view notes.old.items
+            ++ (spec.all_ended_early (early_end_of how.now) (run_state self.old)).notes) }
+    {
+        for suite in self.suites.take_all(alloc) {
+            self.end_early(alloc, how, Box::into_inner(suite), notes)?;
+        }
+        let outside = std::mem::replace(&mut self.outside, Suite::outside(alloc));
+        self.end_early(alloc, how, outside, notes)
+    }
+}

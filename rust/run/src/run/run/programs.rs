@@ -1,0 +1,74 @@
+// Made by tools/erase from crates/test_report_run/src/run/programs.rt. Do not edit.
+//! The end of a program whose tests the lines of a run are of.
+
+use crate::notes::note::{Disagreement, Note, ProgramFault};
+use crate::run::early::{EarlyEnd, Ending};
+use crate::run::error::RunError;
+use crate::run::run::TestRun;
+use crate::run::suite::Suite;
+
+impl TestRun {
+    /// Ends all open suites early, and the tests outside of a suite, as at the end of the program whose tests run. `end` is
+    /// what is known about it. Returns the notes of that: the running tests crashed, or were stopped if the run is
+    /// cancelled or `end` names others.
+    ///
+    /// Fails if a number of the run does not fit its counter. After an error the run must not be used.
+    pub fn on_all_ended_early(&mut self, end: EarlyEnd) -> Result<Vec<Note>, RunError> {
+        let mut notes = Vec::new();
+        let how = self.ending(end);
+        self.end_suites(&how, &mut notes)?;
+        self.learn(&notes)?;
+        Ok(notes)
+    }
+
+    /// Returns which tests crash if all that is open ends so.
+    fn ending(&self, early: EarlyEnd) -> Ending {
+        let EarlyEnd {
+            end,
+            overflowed,
+            panicked,
+        } = early;
+        let crashed = if self.running.has_one_of(&overflowed) {
+            Some(overflowed)
+        } else if self.running.has_one_of(&panicked) {
+            Some(panicked)
+        } else {
+            None
+        };
+        Ending { end, crashed }
+    }
+
+    /// Notes that the lines of programs disagree. Returns the note of that, which says that the run was cancelled if it
+    /// was.
+    ///
+    /// Fails if a number of the run does not fit its counter. After an error the run must not be used.
+    pub fn on_program_fault(&mut self, fault: ProgramFault) -> Result<Vec<Note>, RunError> {
+        let disagreement = self.unless_cancelled(Disagreement::Program(fault));
+        let note = Note::Disagreement(disagreement);
+        self.learn_note(&note)?;
+        let notes = vec![note];
+        Ok(notes)
+    }
+
+    /// Returns a contradiction about the end of something, or that the run was cancelled.
+    pub(crate) fn unless_cancelled(&self, disagreement: Disagreement) -> Disagreement {
+        match self.cancel {
+            Some(reason) => Disagreement::Cancelled(reason),
+            None => disagreement,
+        }
+    }
+
+    /// Ends the open suites early, and then the tests outside of a suite. Fails if memory runs out, or a number of a
+    /// suite does not fit.
+    pub(crate) fn end_suites(
+        &mut self,
+        how: &Ending,
+        notes: &mut Vec<Note>,
+    ) -> Result<(), RunError> {
+        for suite in self.suites.take_all() {
+            self.end_early(how, *suite, notes)?;
+        }
+        let outside = std::mem::replace(&mut self.outside, Suite::outside());
+        self.end_early(how, outside, notes)
+    }
+}
