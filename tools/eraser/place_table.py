@@ -99,7 +99,7 @@ pub struct ExecutionStatusesIter<'a, S: OutputSpec> {
     ),
     ("report_text/src/text.rt", "let ReportText { text, .. } = self; Ok(text.end()?)", "Ok(self.text)"),
     # A value leaves a box by `*`.
-    ("test_report_run/src/run.rt", "Box::into_inner(suite)", "*suite"),
+    ("test_report_run/src/run/programs.rt", "Box::into_inner(suite)", "*suite"),
     ("test_report_run/src/open_suites/changes.rt", "Box::into_inner(self.list.remove(at))", "*self.list.remove(at)"),
     # The crate's own moments are made otherwise.
     (

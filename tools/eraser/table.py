@@ -12,7 +12,7 @@ PACKAGES = {
     "deodarsieve-cli": (
         "program_io", "run_digest_engine", "report_text", "template", "report_templates",
     ),
-    RUN: ("test_report_events", "test_report_run_notes", "test_report_run"),
+    RUN: ("test_report_events", "test_report_run_notes", "test_report_run", "test_report_programs"),
     "deodarsieve-c": ("c_values", "deodarsieve"),
     "deodarsieve-tests": (
         "test_tools",
@@ -29,7 +29,7 @@ PARTS = {"test_tools": ("fixtures",)}
 # The path of a crate's modules in its package.
 PATH_OF = {crate: ["exports" if crate == "deodarsieve" else crate] for crate in PACKAGE_OF if crate not in PARTS}
 PATH_OF |= {crate: [] for crate in PARTS}
-PATH_OF |= {"test_report_events": ["events"], "test_report_run_notes": ["notes"], "test_report_run": ["run"]}
+PATH_OF |= {"test_report_events": ["events"], "test_report_run_notes": ["notes"], "test_report_run": ["run"], "test_report_programs": ["programs"]}
 
 # The packages that are published.
 PUBLISHED = (LAYER, RUN, "deodarsieve-cli", "deodarsieve-c")

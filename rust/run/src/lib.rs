@@ -75,15 +75,65 @@
 //!   if no line says why.
 //! - A run can have several files. Call [`TestRun::end_file`] after each file except the last one, and
 //!   `finish` after the last one.
+//! - If the user ends the run early, call [`TestRun::on_cancelled`]. The tests that run then were stopped
+//!   and did not crash, and no end that follows is a contradiction.
 //! - [`TestRun::numbers`] and [`TestRun::first_running`] say how far the run is.
+//!
+//! # Lines of programs
+//!
+//! `test-report` starts each test program itself. In a run that it saves, lines say how each program, and
+//! the command that runs them, started and ended. [`ProgramRun`] follows such a run; other runs it follows
+//! as the [`TestRun`] in it does. These lines count in a file whose first line is one of them:
+//!
+//! | line | what it does |
+//! |---|---|
+//! | `{"type":"command","event":"started"}` | nothing: it is the first line |
+//! | `{"type":"program","event":"started","name":"ledger"}` | The suites that start from now on are those of the program `ledger` ([`ProgramStart`]) |
+//! | `{"type":"program","event":"ended","status":101,"stderr":""}` | The program ended with a status, or by a `"signal"` ([`ProgramEnd`]). Its suites end early. What it wrote to standard error may name the tests that crashed |
+//! | `{"type":"command","event":"cancelled","cancelled":"Interrupt"}` | Ctrl-C (`Interrupt`) or SIGTERM (`Signal`) was taken here |
+//! | `{"type":"command","event":"ended","status":101}` | The command ended, perhaps with an `"error"`. The file ends here |
+//!
+//! While they count, headings and failures of cargo say nothing, and neither does any other line that is no
+//! event. [`ProgramFault`] lists what can be wrong with a program. [`Line::program`] returns what a line says
+//! of one, wherever the line is.
+//!
+//! ```
+//! use deodarsieve_run::{Disagreement, Line, Note, ProgramFault, ProgramRun, RunError, TestRun};
+//!
+//! let lines = r#"{"type":"command","event":"started"}
+//! {"type":"program","event":"started","name":"ledger"}
+//! {"type":"suite","event":"started","test_count":1}
+//! {"type":"test","event":"started","name":"adds"}
+//! {"type":"test","event":"ok","name":"adds"}
+//! {"type":"suite","event":"ok","passed":1,"failed":0}
+//! {"type":"program","event":"ended","signal":11,"stderr":""}
+//! {"type":"command","event":"ended","status":101}"#;
+//!
+//! let mut run = ProgramRun::new(TestRun::new(60_000_000));
+//! let mut faults = Vec::new();
+//! for line in lines.lines() {
+//!     for note in run.on_line(&Line::read(line.as_bytes()))? {
+//!         if let Note::Disagreement(Disagreement::Program(ProgramFault::Unexplained {
+//!             program,
+//!             end,
+//!         })) = note
+//!         {
+//!             faults.push(format!("{program}: {end:?}"));
+//!         }
+//!     }
+//! }
+//! assert_eq!(faults, ["ledger: Signal(11)"]);
+//! assert_eq!(run.finish(None, false)?.status, 1);
+//! # Ok::<(), RunError>(())
+//! ```
 //!
 //! # What comes out
 //!
 //! | note | what it says |
 //! |---|---|
-//! | [`Note::Test`] | A test passed, was skipped or failed ([`TestOutcome`]). A [`FailureKind`] says how it failed: by its line, by its time limit, in a crash, without a last line, or as a flaky test that counts as failed |
+//! | [`Note::Test`] | A test passed, was skipped, was stopped or failed ([`TestOutcome`]). A [`FailureKind`] says how it failed: by its line, by its time limit, in a crash, without a last line, or as a flaky test that counts as failed |
 //! | [`Note::Flaky`] | A test passed after several attempts. Its `Note::Test` follows when its suite is over |
-//! | [`Note::Disagreement`] | Lines contradict each other, or something failed that is no test ([`Disagreement`]) |
+//! | [`Note::Disagreement`] | Lines contradict each other, or something failed that is no test ([`Disagreement`]). In a cancelled run [`Disagreement::Cancelled`] replaces each one about an end |
 //! | [`Note::NotRun`] | Some tests of a suite did not run |
 //! | [`Note::Suite`] | A suite is over: its numbers. Each file ends with one that has no name: the numbers of the tests outside of suites, even if there are none |
 //!
@@ -96,8 +146,8 @@
 //!
 //! | [`RunOutcome`] | exit status | when |
 //! |---|---|---|
-//! | `Failed` | 1 | A test failed, or there is a disagreement |
-//! | `Cancelled` | 1 | Some tests did not run, and nothing else is wrong |
+//! | `Failed` | 1 | A test failed, or there is a disagreement other than [`Disagreement::Cancelled`] |
+//! | `Cancelled` | 1 | Some tests did not run or were stopped, or there is a [`Disagreement::Cancelled`], and nothing else is wrong |
 //! | `NoTestsRun` | 1, or 0 if `no_tests_pass` is true | Nothing is wrong, and no test passed |
 //! | `Success` | 0 | Nothing is wrong, and a test passed |
 //!
@@ -139,10 +189,11 @@
 //!
 //! - Lines: [`Line`], [`Event`], [`SuiteKey`], [`SuiteEnd`], [`TestResult`], [`TestDetails`],
 //!   [`CargoFailure`], [`microseconds`].
-//! - The run: [`TestRun`], [`Finished`], [`CommandEnd`], [`SuiteNames`], [`RunNumbers`],
-//!   [`FirstRunning`], [`RunError`], [`exit_status`].
+//! - Lines of programs: [`ProgramLine`], [`ProgramStart`], [`ProgramEnd`].
+//! - The run: [`TestRun`], [`ProgramRun`], [`Finished`], [`CommandEnd`], [`SuiteNames`], [`EarlyEnd`],
+//!   [`RunNumbers`], [`FirstRunning`], [`RunError`], [`exit_status`].
 //! - Notes: [`Note`], [`TestNote`], [`TestOutcome`], [`Failure`], [`FailureKind`], [`Crash`],
-//!   [`Disagreement`], [`SaidNumbers`], [`CargoReport`], [`NotRun`], [`SuiteNote`].
+//!   [`Disagreement`], [`SaidNumbers`], [`CargoReport`], [`ProgramFault`], [`NotRun`], [`SuiteNote`].
 //! - The end: [`RunEnd`], [`RunOutcome`], [`RunFailureStep`], [`RunStats`], [`CancelReason`],
 //!   [`failed_count`].
 //! - For the levels of a reporter in [`deodarsieve`]: [`Finish`], [`finished_test`], [`FinishedTest`].
@@ -151,6 +202,7 @@
 
 mod events;
 mod notes;
+mod programs;
 #[allow(
     clippy::new_without_default,
     reason = "`Running::new` takes an allocator in the proved text, where there is no `Default` for it"
@@ -188,12 +240,15 @@ pub use deodarsieve::{
 };
 pub use events::event::{CargoFailure, Event, SuiteEnd, SuiteKey, TestDetails, TestResult};
 pub use events::line::Line;
+pub use events::program::{ProgramEnd, ProgramLine, ProgramStart};
 pub use events::time::microseconds;
 pub use notes::finish::{Finish, finished_test};
 pub use notes::note::{
-    CargoReport, CommandEnd, Crash, Disagreement, Failure, FailureKind, NotRun, Note, RunEnd,
-    SaidNumbers, SuiteNote, TestNote, TestOutcome, failed_count,
+    CargoReport, CommandEnd, Crash, Disagreement, Failure, FailureKind, NotRun, Note, ProgramFault,
+    RunEnd, SaidNumbers, SuiteNote, TestNote, TestOutcome, failed_count,
 };
+pub use programs::run::ProgramRun;
+pub use run::early::EarlyEnd;
 pub use run::error::RunError;
 pub use run::run::progress::{FirstRunning, RunNumbers};
 pub use run::run::{Finished, TestRun};

@@ -69,7 +69,7 @@ fn is_told_failure(note: &&Note) -> bool {
         TestOutcome::Failed(failure) => {
             matches!(failure.kind, FailureKind::Failed | FailureKind::TimedOut)
         }
-        TestOutcome::Passed { .. } | TestOutcome::Skipped { .. } => false,
+        TestOutcome::Passed { .. } | TestOutcome::Skipped { .. } | TestOutcome::Stopped => false,
     }
 }
 
@@ -153,6 +153,7 @@ fn the_sums_are_the_counts_of_the_notes() {
                     flaky += usize::from(test.attempts > 1);
                 }
                 TestOutcome::Skipped { .. } => skipped += 1,
+                TestOutcome::Stopped => {}
                 TestOutcome::Failed(failure) => {
                     failed += 1;
                     crashed += usize::from(matches!(failure.kind, FailureKind::Crashed(_)));

@@ -103,6 +103,7 @@ fn each_kind_of_failure_finishes_a_test_in_one_way() {
     let crash = Crash {
         running: 1,
         has_key: false,
+        end: None,
         cause: None,
         prints: Rc::default(),
         last: Vec::new(),

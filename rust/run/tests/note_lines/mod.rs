@@ -2,8 +2,8 @@
 
 use crate::common::{SLOW, finish, take};
 use deodarsieve_run::{
-    CommandEnd, Disagreement, FailureKind, Finished, Note, TestNote, TestOutcome, TestRun,
-    failed_count,
+    CommandEnd, Disagreement, FailureKind, Finished, Note, ProgramFault, TestNote, TestOutcome,
+    TestRun, failed_count,
 };
 
 /// Reads a run of one file. Returns its notes, and its end.
@@ -68,13 +68,17 @@ fn outcome_of(outcome: &TestOutcome) -> String {
         TestOutcome::Skipped {
             reason: Some(reason),
         } => format!("was skipped: {reason}"),
+        TestOutcome::Stopped => String::from("was stopped"),
         TestOutcome::Failed(failure) => {
             let word = match &failure.kind {
                 FailureKind::Failed => String::from("failed"),
                 FailureKind::TimedOut => String::from("timed out"),
                 FailureKind::WithoutEnd => String::from("failed without an end"),
                 FailureKind::Flaky => String::from("failed as flaky"),
-                FailureKind::Crashed(crash) => format!("crashed, 1 of {}", crash.running),
+                FailureKind::Crashed(crash) => {
+                    let end = crash.end.map(|end| format!(" by {end:?}"));
+                    format!("crashed, 1 of {}{}", crash.running, end.unwrap_or_default())
+                }
             };
             let texts = [&failure.stdout, &failure.message, &failure.reason];
             let texts = texts
@@ -89,7 +93,10 @@ fn outcome_of(outcome: &TestOutcome) -> String {
 /// Returns a disagreement as a line.
 fn disagreement_of(disagreement: &Disagreement) -> String {
     match disagreement {
-        Disagreement::EndedEarly { suite } => format!("{suite} ended early"),
+        Disagreement::EndedEarly { suite, end } => match end {
+            Some(end) => format!("{suite} ended early by {end:?}"),
+            None => format!("{suite} ended early"),
+        },
         Disagreement::LastLine {
             suite,
             said,
@@ -113,6 +120,22 @@ fn disagreement_of(disagreement: &Disagreement) -> String {
         Disagreement::Command(CommandEnd::NotStarted { error }) => format!("not started: {error}"),
         Disagreement::Command(CommandEnd::Signal { number }) => format!("ended by signal {number}"),
         Disagreement::Command(CommandEnd::Status { code }) => format!("ended with status {code}"),
+        Disagreement::Command(CommandEnd::Error { code, words }) => {
+            format!("ended with status {code}: {words}")
+        }
+        Disagreement::Program(fault) => fault_of(fault),
+        Disagreement::Cancelled(reason) => format!("cancelled: {reason:?}"),
+    }
+}
+
+/// Returns what is wrong with lines of programs as a line.
+fn fault_of(fault: &ProgramFault) -> String {
+    match fault {
+        ProgramFault::Unexplained { program, end } => format!("{program} ended by {end:?}"),
+        ProgramFault::NoTests { program } => format!("{program} ran no tests"),
+        ProgramFault::NoEnd { program } => format!("{program} did not end"),
+        ProgramFault::NotStarted { end } => format!("no program ended by {end:?}"),
+        ProgramFault::CutOff => String::from("the run was cut off"),
     }
 }
 

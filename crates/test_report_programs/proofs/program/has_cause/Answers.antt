@@ -1,0 +1,14 @@
+-- A note is a cause.
+use Rattle.std.proofs.Common.{◌∙◌, rules, tests}
+use Rattle.std.proofs.lemmas.Iterator.{YieldsList-from_slice}
+use Rattle.std.proofs.lemmas.Iterator.Search.{any_from_yields_List}
+use Rattle.test_report_run.specs.Run.{is_cause}
+use Rattle.test_report_run_notes.specs.Note.{note_view}
+use Rattle.test_report_programs.proofs.Notes.{any-view}
+use Rattle.test_report_programs.proofs.program.has_cause.Goals as goal
+
+pub returns : goal.returns
+returns c =
+    any_from_yields_List (λ n. is_cause (note_view n)) _ _ _ c.any.ensures.ran
+    (YieldsList-from_slice c.args.notes.now c.iter.ensures.rest) (λ x b q k. search (rules, tests))
+    ∙ any-view is_cause c.args.notes.now
