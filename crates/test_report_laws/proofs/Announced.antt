@@ -4,9 +4,10 @@ use Rattle.std.specs.List.{fold, remove, sum_by}
 use Rattle.std.specs.Option.{option_map_or}
 use Rattle.std.specs.Prelude.{◌-◌, ◌==◌, if◌then◌else◌, max, nat_lt}
 use Rattle.std.proofs.lemmas.List.Sums.{sum_by-append, sum_by-cons, sum_by-remove, sum_by-set, sum_by_push}
+use Rattle.run_events_stats.specs.Outcome.{combined}
 use Rattle.run_events_stats.specs.declared.outcome.RunFailureStep.TheVariants as step
 use Rattle.run_events_stats.specs.declared.outcome.run_outcome.RunOutcome.TheVariants as outcome
-use Rattle.test_report_events.specs.Event.{EventView, SuiteEndView, SuiteStarts, SuiteEnds}
+use Rattle.test_report_events.specs.Event.{AllEndEarly, EventView, SuiteEndView, SuiteStarts, SuiteEnds}
 use Rattle.test_report_run_notes.specs.Note.{NoteView}
 use Rattle.test_report_run_notes.specs.declared.note.RunEnd.{RunEnd}
 use Rattle.test_report_laws.proofs.Books.{IsIn, position-in}
@@ -19,9 +20,9 @@ use Rattle.test_report_laws.proofs.Tallies.{run-sums}
 use Rattle.test_report_laws.proofs.Weights.{keeps-line, ready-suites, weigh, weight_of}
 use Rattle.test_report_run.specs.Running.{RunningView}
 use Rattle.test_report_run.specs.Others.{OthersView}
-use Rattle.test_report_run.specs.Over.{early_notes, early_state, explained_of, last_notes, last_state, rest_of}
+use Rattle.test_report_run.specs.Over.{EarlyEnd, crashed_of, early_notes, early_state, explained_of, last_notes, last_state, nothing_known, rest_of, stopped_of}
 use Rattle.test_report_run.specs.FileEnd.{file_notes}
-use Rattle.test_report_run.specs.Run.{RunState, Step, after, ended_at, ended_early, heard, learned, tests_in, notes_at, open_suite, opened, run_start, settled_at, started_again, step, stray_suite_notes, suite_at, with_suite_at, without_tests}
+use Rattle.test_report_run.specs.Run.{RunState, Step, after, all_ended_early, early_end, ended_at, ended_early, heard, learned, tests_in, notes_at, open_suite, opened, run_start, settled_at, started_again, step, stray_suite_notes, suite_at, with_suite_at, without_tests}
 use Rattle.test_report_run.specs.Said.{sum_of}
 use Rattle.test_report_laws.specs.Status.{AnnouncedAreCounted, announced_by}
 use Rattle.test_report_run.specs.Suite.{SuiteState, cancelled_by, has_key, joined_by, outside_start, suite_start, with_line}
@@ -42,13 +43,16 @@ covers : (count : Option ℕ) (skipped finished left : ℕ) → option_map_or (�
 covers None skipped finished left = omega arith
 covers (Some c) skipped finished left = omega arith
 
-early-covers : (others : OthersView) (s : SuiteState) (tests : List RunningView) → weigh announcing s ≤ sum_by reach (early_notes others s tests)
-early-covers others s tests =
-    let last = early_state s tests in
-    let rest = early_rest s in
+early-covers : (others : OthersView) (how : EarlyEnd) (s : SuiteState) (tests : List RunningView)
+    → weigh announcing s ≤ sum_by reach (early_notes others how s tests)
+early-covers others how s tests =
+    let crashed = crashed_of s how tests in
+    let stopped = stopped_of s how tests in
+    let last = early_state s crashed in
+    let rest = early_rest s stopped in
     omega (
       arith,
-      early-suite (λ n. n.stats.finished_count + n.skipped + n.not_run) others s tests,
+      early-suite (λ n. n.stats.finished_count + n.skipped + n.not_run) others how.end s crashed stopped,
       covers s.test_count rest.skipped last.stats.finished_count rest.left,
     )
 
@@ -90,14 +94,15 @@ covered-first n notes r (Some key) count (Some at) in' i =
 covered-first n notes r None count (Some at) in' i =
     let s = suite_at r (Some at) in
     let tests = tests_in r s in
+    let own = cancelled_by r.cancel s in
     let start = suite_start (Some (r.suites_started + 1)) None r.heading count r.others in
     omega (
       arith,
       i,
-      early-covers r.others (cancelled_by r.cancel s) tests,
+      early-covers r.others nothing_known own tests,
       sum_by_push (weigh announcing) (remove r.suites at) start,
       sum_by-remove (weigh announcing) r.suites at r.outside in',
-      sum_by-append reach notes (early_notes r.others (cancelled_by r.cancel s) tests),
+      sum_by-append reach notes (early_notes r.others nothing_known own tests),
     )
 
 covered-over : (n : ℕ) (notes : List NoteView) (r : RunState) (e : SuiteEndView) (at : ℕ) (over : Bool) → at < length r.suites → Covered n notes r
@@ -137,6 +142,32 @@ covered-ready n notes r e i = omega (
   ap (λ (suites : List SuiteState). sum_by (weigh announcing) suites) (ready-suites r e),
 )
 
+-- suites that end early, and the tests outside of a suite
+covered-ends : (how : EarlyEnd) (t : Step) (suites : List SuiteState)
+    → sum_by (weigh announcing) suites + sum_by reach t.notes ≤ sum_by reach (fold (ended_early how) t suites).notes
+covered-ends how t [] = omega arith
+covered-ends how t (s ∷ suites) =
+    let tests = tests_in t.run s in
+    let own = cancelled_by t.run.cancel s in
+    omega (
+      arith,
+      early-covers t.run.others how own tests,
+      sum_by-cons (weigh announcing) s suites,
+      sum_by-append reach t.notes (early_notes t.run.others how own tests),
+      covered-ends how (ended_early how t s) suites,
+    )
+
+covered-all : (how : EarlyEnd) (r : RunState) → weight_of announcing r ≤ sum_by reach (all_ended_early how r).notes
+covered-all how r =
+    let none = step (record r { suites = [] }) [] in
+    let ended = fold (ended_early how) none r.suites in
+    let tests = tests_in (record (ended.run) { outside = outside_start }) r.outside in
+    omega (
+      arith,
+      covered-ends how none r.suites,
+      sum_by-append reach ended.notes (early_notes ended.run.others how (cancelled_by ended.run.cancel r.outside) tests),
+    )
+
 covered-line : (n : ℕ) (notes : List NoteView) (r : RunState) (e : EventView) → Covered n notes r
     → Covered (n + announced_by e) (notes ++ notes_at r e) (after r e)
 covered-line n notes r (SuiteStarts key count) i =
@@ -151,46 +182,33 @@ covered-line n notes r (SuiteEnds e) i =
     known-at (λ known. Covered (n + announced_by line) known (after r line)) notes r line
     (covered-last n (notes ++ (settled_at r line).notes) now e (open_suite now e.key)
     (position-in (has_key e.key) now.suites (open_suite now e.key) refl) (covered-ready n notes r line i))
+covered-line n notes r (AllEndEarly end) i =
+    let e = AllEndEarly end in omega (arith, i, covered-all (early_end r end) r, sum_by-append reach notes (notes_at r e))
 covered-line n notes r e i = covered-other n notes r e refl (keeps-line r e refl announcing) i
 
 -- the end of a file
-covered-ends : (t : Step) (suites : List SuiteState)
-    → sum_by (weigh announcing) suites + sum_by reach t.notes ≤ sum_by reach (fold ended_early t suites).notes
-covered-ends t [] = omega arith
-covered-ends t (s ∷ suites) =
-    let tests = tests_in t.run s in
-    omega (
-      arith,
-      early-covers t.run.others (cancelled_by t.run.cancel s) tests,
-      sum_by-cons (weigh announcing) s suites,
-      sum_by-append reach t.notes (early_notes t.run.others (cancelled_by t.run.cancel s) tests),
-      covered-ends (ended_early t s) suites,
-    )
-
 covered-end : (n : ℕ) (notes : List NoteView) (r : RunState) → Covered n notes r → n ≤ sum_by reach (notes ++ file_notes r)
-covered-end n notes r i =
-    let now = reported_run r in
-    let none = step (record now { suites = [] }) [] in
-    let ended = fold ended_early none now.suites in
-    let tests = tests_in (record (ended.run) { outside = outside_start }) now.outside in
-    let last = early_notes ended.run.others (cancelled_by ended.run.cancel now.outside) tests in
-    omega (
-      arith,
-      i,
-      covered-ends none now.suites,
-      ap (weight_of announcing) (only-told r).run_is,
-      sum_by-append reach ended.notes last,
-      end-parts reach r,
-      sum_by-append reach notes (file_notes r),
-    )
+covered-end n notes r i = omega (
+  arith,
+  i,
+  covered-all nothing_known (reported_run r),
+  ap (weight_of announcing) (only-told r).run_is,
+  end-parts reach r,
+  sum_by-append reach notes (file_notes r),
+)
 
 -- the sums of a run
 abbrev reached : RunEnd → ℕ
 reached e = e.stats.finished_count + e.skipped + e.not_run
 
-ending-reached : (e : RunEnd) (disagree : Bool) → reached (if disagree then record e { outcome = outcome.Failed step.Test } else e) ≡ reached e
-ending-reached e true = refl
-ending-reached e false = refl
+ending-reached : (e : RunEnd) (beyond disagree : Bool)
+    → reached (if beyond then record e { outcome = outcome.Failed step.Test }
+    else if disagree then record e { outcome = combined e.outcome (outcome.Cancelled step.Test) }
+    else e)
+    ≡ reached e
+ending-reached e true disagree = refl
+ending-reached e false true = refl
+ending-reached e false false = refl
 
 pub announced-counted : AnnouncedAreCounted
 announced-counted settings files =
@@ -202,5 +220,5 @@ announced-counted settings files =
           (omega arith) files,
       sum-of reached (λ s. s.stats.finished_count + s.skipped + s.not_run) (λ e s. omega arith) refl notes,
       ap (λ s. reached s.0) (run-sums settings files),
-      ending-reached r.totals (nat_lt 0 r.disagreements),
+      ending-reached r.totals (nat_lt r.cancels r.disagreements) (nat_lt 0 r.disagreements),
     )

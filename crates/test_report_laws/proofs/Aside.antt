@@ -4,13 +4,12 @@ use Rattle.std.specs.List.{fold, position, remove}
 use Rattle.std.specs.Option.{option_map_or}
 use Rattle.std.specs.Prelude.{◌==◌}
 use Rattle.std.proofs.lemmas.Bool.{cond_both}
-use Rattle.test_report_events.specs.Event.{EventView, SuiteEndView, TestEndView, SuiteStarts, SuiteEnds, TestStarts, TestEnds, TestIsSlow, OtherLine, HeadingLine, CargoFails, Prints, DamagedLine, CommandStarts, Cancels, CommandOver}
+use Rattle.test_report_events.specs.Event.{EventView, SuiteEndView, TestEndView, SuiteStarts, SuiteEnds, TestStarts, TestEnds, TestIsSlow, OtherLine, HeadingLine, CargoFails, Prints, DamagedLine, CommandStarts, Cancels, CommandOver, AllEndEarly, ProgramDisagrees}
 use Rattle.test_report_events.specs.declared.event.TestResult.{TestResult}
 use Rattle.test_report_events.specs.declared.event.TestResult.TheVariants.{Ok, Failed, Ignored}
 use Rattle.test_report_run.specs.Events.{is_event}
-use Rattle.test_report_run.specs.Over.{last_notes}
-use Rattle.test_report_run.specs.FileEnd.{all_ended_early}
-use Rattle.test_report_run.specs.Run.{RunState, Step, ended_at, ended_early, tests_in, open_suite, opened, place_of_number, running_ends, slow_at, started_again, step, stray_ends, stray_suite_notes, suite_at, suite_place, told, with_suite_at, without_tests}
+use Rattle.test_report_run.specs.Over.{EarlyEnd, last_notes}
+use Rattle.test_report_run.specs.Run.{RunState, Step, all_ended_early, ended_at, ended_early, tests_in, open_suite, opened, place_of_number, running_ends, slow_at, started_again, step, stray_ends, stray_suite_notes, suite_at, suite_place, told, with_suite_at, without_tests}
 use Rattle.test_report_run.specs.Running.{is_same, place_of_end, running_at}
 use Rattle.test_report_run.specs.Suite.{SuiteState, cancelled_by, outside_start, with_line}
 
@@ -67,11 +66,13 @@ aside-told r (DamagedLine text) h = absurd (cc)
 aside-told r (CommandStarts names) h = absurd (cc)
 aside-told r (Cancels why) h = absurd (cc)
 aside-told r (CommandOver end) h = absurd (cc)
+aside-told r (AllEndEarly end) h = absurd (cc)
+aside-told r (ProgramDisagrees fault) h = absurd (cc)
 
 -- suites that end early
-aside-ends : (t : Step) (suites : List SuiteState) → aside (fold ended_early t suites).run ≡ aside t.run
-aside-ends t [] = refl
-aside-ends t (s ∷ suites) = aside-ends (ended_early t s) suites
+aside-ends : (how : EarlyEnd) (t : Step) (suites : List SuiteState) → aside (fold (ended_early how) t suites).run ≡ aside t.run
+aside-ends how t [] = refl
+aside-ends how t (s ∷ suites) = aside-ends how (ended_early how t s) suites
 
-pub aside-early : (r : RunState) → aside (all_ended_early r).run ≡ aside r
-aside-early r = aside-ends (step (record r { suites = [] }) []) r.suites
+pub aside-early : (how : EarlyEnd) (r : RunState) → aside (all_ended_early how r).run ≡ aside r
+aside-early how r = aside-ends how (step (record r { suites = [] }) []) r.suites

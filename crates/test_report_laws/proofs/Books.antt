@@ -9,22 +9,24 @@ use Rattle.std.proofs.lemmas.List.Quantifiers.{position-Some}
 use Rattle.std.proofs.lemmas.List.Sums.{fold-append, sum_by-append, sum_by-cons, sum_by-remove, sum_by-set, sum_by_push}
 use Rattle.run_events_stats.specs.Counters.{counters_of, nothing_known}
 use Rattle.run_events_stats.specs.declared.stats.RunStats.{RunStats}
-use Rattle.test_report_events.specs.Event.{EventView, SuiteEndView, TestEndView, SuiteStarts, SuiteEnds, TestStarts, TestEnds, TestIsSlow, OtherLine, HeadingLine, CargoFails, Prints, DamagedLine, CommandStarts, Cancels, CommandOver}
+use Rattle.test_report_events.specs.Event.{EventView, SuiteEndView, TestEndView, SuiteStarts, SuiteEnds, TestStarts, TestEnds, TestIsSlow, OtherLine, HeadingLine, CargoFails, Prints, DamagedLine, CommandStarts, Cancels, CommandOver, AllEndEarly, ProgramDisagrees}
 use Rattle.test_report_events.specs.declared.event.TestResult.{TestResult}
 use Rattle.test_report_events.specs.declared.event.TestResult.TheVariants.{Ok, Failed, Ignored}
-use Rattle.test_report_run_notes.specs.Note.{Disagrees, DisagreementView, IsDamaged, NoteView, StrayEnds, StraySuiteEnds}
+use Rattle.test_report_events.specs.declared.program.ProgramEnd.{ProgramEnd}
+use Rattle.test_report_run_notes.specs.Note.{Disagrees, DisagreementView, IsDamaged, OfProgram, NoteView, StrayEnds, StraySuiteEnds}
 use Rattle.test_report_run_notes.specs.declared.note.RunEnd.{RunEnd}
 use Rattle.test_report_laws.proofs.CargoReports.{OnlyReports, only-cargo, only-settled_at, only-told, reports-none}
 use Rattle.test_report_laws.proofs.EndSums.{last_by}
-use Rattle.test_report_laws.proofs.FileEnds.{reported_run, suites-alone}
+use Rattle.test_report_laws.proofs.FileEnds.{reported_run, suites-alone, suites_over}
 use Rattle.test_report_laws.proofs.OverRuns.{over-run, up-to-line}
 use Rattle.test_report_laws.proofs.Sums.{sum-if-none}
 use Rattle.test_report_run.specs.Ended.{after_end, end_notes}
 use Rattle.test_report_run.specs.Others.{OthersView, after_failure}
-use Rattle.test_report_run.specs.Over.{early_notes, explained_of, last_notes}
+use Rattle.test_report_run.specs.Over.{EarlyEnd, crashed_of, early_by, early_notes, explained_of, last_notes, stopped_of}
+use Rattle.test_report_run.specs.Over as ending
 use Rattle.test_report_run.specs.Prints.{cut}
 use Rattle.test_report_run.specs.FileEnd.{after_file, file_notes, reports_told}
-use Rattle.test_report_run.specs.Run.{RunSettings, RunState, Step, after, cargo_fails, counts_tests, ended_at, ended_early, heard, is_disagreement, learned, marked, notes_at, open_suite, opened, place_of_number, run_start, running_ends, running_over, settled_at, slow_at, started_again, step, stray_ends, stray_over, stray_suite_notes, stray_test, suite_at, suite_place, tests_in, told, told_at, with_note, with_suite_at, without_tests}
+use Rattle.test_report_run.specs.Run.{RunSettings, RunState, Step, after, all_ended_early, cargo_fails, counts_tests, early_end, ended_at, ended_early, heard, is_disagreement, learned, marked, notes_at, open_suite, opened, place_of_number, run_start, running_ends, running_over, settled_at, slow_at, started_again, step, stray_ends, stray_over, stray_suite_notes, stray_test, suite_at, suite_place, tests_in, told, told_at, unless_cancelled, with_note, with_suite_at, without_tests}
 use Rattle.test_report_run.specs.Running.{RunningView, is_same, place_of_end, running_at, with_slow}
 use Rattle.test_report_run.specs.Name.{before_dollar}
 use Rattle.test_report_run.specs.Suite.{FlakyView, OverView, SuiteState, cancelled_by, has_key, joined_by, named, outside_start, suite_start, with_line, with_start}
@@ -121,10 +123,14 @@ pub record HoldsAll (loose : ℕ) (w v : NoteView → ℕ) (notes : List NoteVie
   pub all_sums : sums_of r ≡ sums_in notes
 
 -- suites that end early leave no other suite, and the sums
-pub ends-keep : (t : Step) (suites : List SuiteState) → ((fold ended_early t suites).run.suites ≡ t.run.suites)
-    × (sums_of (fold ended_early t suites).run ≡ sums_of t.run)
-ends-keep t [] = (refl, refl)
-ends-keep t (s ∷ suites) = ends-keep (ended_early t s) suites
+pub ends-keep : (how : EarlyEnd) (t : Step) (suites : List SuiteState) → ((fold (ended_early how) t suites).run.suites ≡ t.run.suites)
+    × (sums_of (fold (ended_early how) t suites).run ≡ sums_of t.run)
+ends-keep how t [] = (refl, refl)
+ends-keep how t (s ∷ suites) = ends-keep how (ended_early how t s) suites
+
+-- so no suite is open when all end early
+pub none-left : (how : EarlyEnd) (r : RunState) → (all_ended_early how r).run.suites ≡ []
+none-left how r = (ends-keep how (step (record r { suites = [] }) []) r.suites).0
 
 -- weights of notes, of which the first speaks of tests and the second of suites, a weight of suites, and what holds of suites
 pub record Rules (loose : ℕ) (w v : NoteView → ℕ) (h : Kept → ℕ) (Fine : Kept → Type 0) : Type 0 where
@@ -135,8 +141,8 @@ pub record Rules (loose : ℕ) (w v : NoteView → ℕ) (h : Kept → ℕ) (Fine
   pub of_end : (s : SuiteState) (t : OverView) (order : ℕ) (e : TestEndView) → Fine (kept s)
       → (sum_by w (end_notes s t e) + h (kept s) ≡ sum_by v (end_notes s t e) + h (kept (after_end s t order e)))
       × Fine (kept (after_end s t order e))
-  pub of_early : (others : OthersView) (s : SuiteState) (tests : List RunningView) → Fine (kept s)
-      → Within loose (sum_by w (early_notes others s tests) + h (kept s)) (sum_by v (early_notes others s tests))
+  pub of_early : (others : OthersView) (end : Option ProgramEnd) (s : SuiteState) (crashed stopped : List RunningView) → Fine (kept s)
+      → Within loose (sum_by w (early_by others end s crashed stopped) + h (kept s)) (sum_by v (early_by others end s crashed stopped))
   pub of_last : (s : SuiteState) (e : Explanation) (tests : List RunningView) → Fine (kept s)
       → Within loose (sum_by w (last_by s e tests) + h (kept s)) (sum_by v (last_by s e tests))
 
@@ -154,6 +160,11 @@ module _ {loose : ℕ} {w v : NoteView → ℕ} {h : Kept → ℕ} {Fine : Kept 
   Keeps r t = Within loose (sum_by w t.notes + all_held h r) (sum_by v t.notes + all_held h t.run)
       × AreFine t.run
       × (sums_of t.run ≡ sums_of r)
+
+  -- a suite ends early, by those of its tests that crash and those that are stopped
+  ends-so : (others : OthersView) (how : EarlyEnd) (s : SuiteState) (tests : List RunningView) → Fine (kept s)
+      → Within loose (sum_by w (early_notes others how s tests) + h (kept s)) (sum_by v (early_notes others how s tests))
+  ends-so others how s tests = of_early others how.end s (crashed_of s how tests) (stopped_of s how tests)
 
   fine-at : (r : RunState) (at : Option ℕ) → AreFine r → IsIn r.suites at → IsFine (suite_at r at)
   fine-at r None f in' = f.0
@@ -199,7 +210,7 @@ module _ {loose : ℕ} {w v : NoteView → ℕ} {h : Kept → ℕ} {Fine : Kept 
       let start = suite_start (Some (r.suites_started + 1)) None r.heading count r.others in
       let same = held-push h (remove r.suites at) start empty in
       let less = held-remove h r at in' in
-      let over = of_early r.others (cancelled_by r.cancel s) (tests_in r s) (fine-at r (Some at) f in') in (
+      let over = ends-so r.others ending.nothing_known (cancelled_by r.cancel s) (tests_in r s) (fine-at r (Some at) f in') in (
         record { low = omega (arith, over.low); high = λ e. omega (arith, over.high e) },
         (f.0, All-push IsFine (remove r.suites at) start (fine-remove r at f) fine_empty),
         refl,
@@ -277,6 +288,36 @@ module _ {loose : ℕ} {w v : NoteView → ℕ} {h : Kept → ℕ} {Fine : Kept 
           → Keeps r (step (record (with_suite_at r at s) { running = with_slow r.running p.0 }) [])
       slow-keeps r s at in' k = k
 
+  -- all that is open ends early
+  ends-early : (how : EarlyEnd) (t : Step) (suites : List SuiteState) → All IsFine suites
+      → Within loose (sum_by w (fold (ended_early how) t suites).notes + (sum_by v t.notes + sum_by (held h) suites))
+      (sum_by v (fold (ended_early how) t suites).notes + sum_by w t.notes)
+  ends-early how t [] f = record { low = omega arith; high = λ _. omega arith }
+  ends-early how t (s ∷ suites) f =
+      let tests = tests_in t.run s in
+      let own = cancelled_by t.run.cancel s in
+      let now = ends-so t.run.others how own tests (All-head IsFine s suites f) in
+      let rest = ends-early how (ended_early how t s) suites (All-tail IsFine s suites f) in
+      let more = sum_by-cons (held h) s suites in
+      let x = sum_by-append w t.notes (early_notes t.run.others how own tests) in
+      let y = sum_by-append v t.notes (early_notes t.run.others how own tests) in
+      record { low = omega (arith, now.low, rest.low); high = λ e. omega (arith, now.high e, rest.high e) }
+
+  keeps-ends : (how : EarlyEnd) (r : RunState) → AreFine r → Keeps r (all_ended_early how r)
+  keeps-ends how r f =
+      let none = step (record r { suites = [] }) [] in
+      let ended = fold (ended_early how) none r.suites in
+      let keep = ends-keep how none r.suites in
+      let first = ends-early how none r.suites f.1 in
+      let last = ends-early how (step (record (ended.run) { outside = outside_start }) ended.notes) (r.outside ∷ [])
+      (All-cons IsFine r.outside [] f.0 (All-nil IsFine)) in
+      let one = sum_by-cons (held h) r.outside [] in
+      let gone : sum_by (held h) ended.run.suites ≡ 0 = ap (sum_by (held h)) keep.0 in (
+        record { low = omega (arith, first.low, last.low); high = λ e. omega (arith, first.high e, last.high e) },
+        (fine_empty, subst (All IsFine) (sym keep.0) (All-nil IsFine)),
+        keep.1,
+      )
+
   -- failures of cargo become known
   keeps-reports : (r : RunState) (t : Step) → AreFine r → OnlyReports r t → Keeps r t
   keeps-reports r t f only =
@@ -303,6 +344,8 @@ module _ {loose : ℕ} {w v : NoteView → ℕ} {h : Kept → ℕ} {Fine : Kept 
   keeps-line r (CommandStarts names) f = (record { low = omega arith; high = λ _. omega arith }, f, refl)
   keeps-line r (Cancels why) f = (record { low = omega arith; high = λ _. omega arith }, f, refl)
   keeps-line r (CommandOver end) f = (record { low = omega arith; high = λ _. omega arith }, f, refl)
+  keeps-line r (AllEndEarly end) f = keeps-ends (early_end r end) r f
+  keeps-line r (ProgramDisagrees fault) f = keeps-if r true (unless_cancelled r (OfProgram fault)) f
 
   -- one step after the other
   keeps-both : (r : RunState) (s t : Step) → Keeps r s → Keeps s.run t → Keeps r (step t.run (s.notes ++ t.notes))
@@ -352,32 +395,16 @@ module _ {loose : ℕ} {w v : NoteView → ℕ} {h : Kept → ℕ} {Fine : Kept 
       (holds-step notes r (told_at r e) i (keeps-at r e i.fine))
 
   -- the end of a file
-  ends-early : (t : Step) (suites : List SuiteState) → All IsFine suites
-      → Within loose (sum_by w (fold ended_early t suites).notes + (sum_by v t.notes + sum_by (held h) suites))
-      (sum_by v (fold ended_early t suites).notes + sum_by w t.notes)
-  ends-early t [] f = record { low = omega arith; high = λ _. omega arith }
-  ends-early t (s ∷ suites) f =
-      let tests = tests_in t.run s in
-      let now = of_early t.run.others (cancelled_by t.run.cancel s) tests (All-head IsFine s suites f) in
-      let rest = ends-early (ended_early t s) suites (All-tail IsFine s suites f) in
-      let more = sum_by-cons (held h) s suites in
-      let x = sum_by-append w t.notes (early_notes t.run.others (cancelled_by t.run.cancel s) tests) in
-      let y = sum_by-append v t.notes (early_notes t.run.others (cancelled_by t.run.cancel s) tests) in
-      record { low = omega (arith, now.low, rest.low); high = λ e. omega (arith, now.high e, rest.high e) }
-
   holds-file_end : (notes : List NoteView) (r : RunState) → Holds notes r → HoldsAll loose w v (notes ++ file_notes r) (after_file r)
   holds-file_end notes r i =
       let told = keeps-reports r (reports_told r) i.fine (only-told r) in
       let now = reported_run r in
-      let none = step (record now { suites = [] }) [] in
-      let ended = fold ended_early none now.suites in
-      let keep = ends-keep none now.suites in
       let before = i.books in
       let known = told.0 in
-      let first = ends-early none now.suites told.1.1 in
-      let last = ends-early (step (record (ended.run) { outside = outside_start }) ended.notes) (now.outside ∷ [])
-      (All-cons IsFine now.outside [] told.1.0 (All-nil IsFine)) in
-      let one = sum_by-cons (held h) now.outside [] in
+      let ended = keeps-ends ending.nothing_known now told.1 in
+      let last = ended.0 in
+      let closed = none-left ending.nothing_known now in
+      let gone : all_held h (suites_over r).run ≡ 0 = omega (arith, empty, ap (sum_by (held h)) closed) in
       let x = sum_by-append w notes (file_notes r) in
       let y = sum_by-append v notes (file_notes r) in
       let a = suites-alone w w_disagree r in
@@ -386,12 +413,12 @@ module _ {loose : ℕ} {w v : NoteView → ℕ} {h : Kept → ℕ} {Fine : Kept 
       let d = reports-none (only-told r) v (λ report. v_disagree _) in
       record {
         whole = record {
-          low = omega (arith, before.low, known.low, first.low, last.low);
-          high = λ e. omega (arith, before.high e, known.high e, first.high e, last.high e);
+          low = omega (arith, before.low, known.low, last.low);
+          high = λ e. omega (arith, before.high e, known.high e, last.high e);
         };
         outside = refl;
-        suites = keep.0;
-        all_sums = ap (λ s. learn s (file_notes r)) (keep.1 ∙ (told.2 ∙ i.sums)) ∙ learn-more notes (file_notes r);
+        suites = closed;
+        all_sums = ap (λ s. learn s (file_notes r)) (ended.2 ∙ (told.2 ∙ i.sums)) ∙ learn-more notes (file_notes r);
       }
 
   holds-start : (notes : List NoteView) (r : RunState) → HoldsAll loose w v notes r → Holds notes r

@@ -5,7 +5,7 @@ use Rattle.std.specs.Option.{option_map_or}
 use Rattle.std.specs.Prelude.{◌==◌, ◌&&◌, not}
 use Rattle.std.proofs.lemmas.Bool.{cond_both, ltb-true}
 use Rattle.std.proofs.lemmas.List.Sums.{sum_by-append}
-use Rattle.test_report_events.specs.Event.{CargoFails, CommandOver, CommandStarts, Cancels, DamagedLine, EventView, HeadingLine, Prints}
+use Rattle.test_report_events.specs.Event.{AllEndEarly, CargoFails, CommandOver, CommandStarts, Cancels, DamagedLine, EventView, HeadingLine, Prints, ProgramDisagrees}
 use Rattle.test_report_events.specs.declared.event.CargoFailure.{CargoFailure}
 use Rattle.test_report_events.specs.declared.event.CargoFailure.TheVariants.{Build, Tests, Run}
 use Rattle.test_report_run_notes.specs.Note.{CargoSays, CargoView, Disagrees, NoteView}
@@ -22,7 +22,8 @@ use Rattle.test_report_run.specs.Events.{is_after_report, is_event}
 use Rattle.test_report_run.specs.Others.{after_failure}
 use Rattle.test_report_run.specs.Suite.{SuiteState}
 use Rattle.test_report_run.specs.FileEnd.{after_file, file_notes, held_told}
-use Rattle.test_report_run.specs.Run.{RunSettings, RunState, Step, after, cargo_fails, disagrees, is_cause, is_explained, notes_at, report_told, run_start, settled, settled_at, step, told, with_report}
+use Rattle.test_report_run.specs.Over.{nothing_known}
+use Rattle.test_report_run.specs.Run.{RunSettings, RunState, Step, after, cargo_fails, disagrees, early_end, is_cause, is_explained, notes_at, report_told, run_start, settled, settled_at, step, told, with_report}
 
 -- a command that has started is known up to the end of the file
 of-settled : (r : RunState) (e : EventView) → (ready r e).of_command ≡ r.of_command
@@ -37,6 +38,8 @@ of-told r (DamagedLine text) h = h
 of-told r (CommandStarts names) h = absurd (cc)
 of-told r (Cancels why) h = h
 of-told r (CommandOver end) h = h
+of-told r (AllEndEarly end) h = sym (ap (λ (x : RunState). x.of_command) (aside-early (early_end r end) r)) ∙ h
+of-told r (ProgramDisagrees fault) h = h
 of-told r e h = sym (ap (λ (x : RunState). x.of_command) (aside-told r e refl)) ∙ h
 
 of-after : (r : RunState) (e : EventView) → (after r e).of_command ≡ (told (ready r e) e).run.of_command
@@ -76,6 +79,8 @@ held-told r (DamagedLine text) = refl
 held-told r (CommandStarts names) = refl
 held-told r (Cancels why) = refl
 held-told r (CommandOver end) = refl
+held-told r (AllEndEarly end) = ap (λ (x : RunState). x.held) (aside-early (early_end r end) r)
+held-told r (ProgramDisagrees fault) = refl
 held-told r e = ap (λ (x : RunState). x.held) (aside-told r e refl)
 
 held-after : (r : RunState) (e : EventView) → (after r e).held ≡ (told (ready r e) e).run.held
@@ -87,7 +92,7 @@ held-line r e i none =
     held-after r e ∙ (held-told (ready r e) e ∙ held-ready r e i (of-told (ready r e) e (sym (of-after r e) ∙ none)))
 
 held-end : (r : RunState) → (after_file r).held ≡ []
-held-end r = ap (λ (x : RunState). x.held) (aside-early (reported_run r)) ∙ held-known (settled r false).run
+held-end r = ap (λ (x : RunState). x.held) (aside-early nothing_known (reported_run r)) ∙ held-known (settled r false).run
 
 none-held : (settings : RunSettings) (files : List (List EventView)) (events : List EventView)
     → NoneHeld (run_after (run_after_files (run_start settings) files) events)
@@ -122,6 +127,8 @@ told-waits r (DamagedLine text) = omega arith
 told-waits r (CommandStarts names) = omega arith
 told-waits r (Cancels why) = omega arith
 told-waits r (CommandOver end) = omega arith
+told-waits r (AllEndEarly end) = omega (arith, ap last_waits (aside-early (early_end r end) r))
+told-waits r (ProgramDisagrees fault) = omega arith
 told-waits r e = omega (arith, ap last_waits (aside-told (ready r e) e refl))
 
 after-waits : (r : RunState) (e : EventView) → last_waits (after r e) ≡ last_waits (told (ready r e) e).run

@@ -4,7 +4,7 @@ use Rattle.std.specs.List.{count_by, sum_by}
 use Rattle.std.specs.Prelude.{◌-◌}
 use Rattle.std.proofs.lemmas.Bool.{cond_both}
 use Rattle.std.proofs.lemmas.List.Sums.{sum_by-append, sum_by-le-sum_by}
-use Rattle.test_report_events.specs.Event.{CargoFails, CommandOver, CommandStarts, Cancels, DamagedLine, EventView, HeadingLine, Prints}
+use Rattle.test_report_events.specs.Event.{AllEndEarly, CargoFails, CommandOver, CommandStarts, Cancels, DamagedLine, EventView, HeadingLine, Prints, ProgramDisagrees}
 use Rattle.test_report_run_notes.specs.Note.{CargoView, Disagrees, NoteView, TestIs, ended_well, is_new_disagreement}
 use Rattle.test_report_laws.proofs.Aside.{aside-early, aside-told}
 use Rattle.test_report_laws.proofs.CargoReports.{Counted, counted-cargo, counted-settled_at, counted-told, if_some, none-reported, only-settled_at, only-told, ready, report_notes, reports-none, waiting}
@@ -13,8 +13,9 @@ use Rattle.test_report_laws.proofs.OverRuns.{up-to-line}
 use Rattle.test_report_laws.proofs.RunCauses.{weight}
 use Rattle.test_report_laws.proofs.Sums.{one-most}
 use Rattle.test_report_laws.specs.Whole.{all_notes, notes_of, run_after, run_after_files}
+use Rattle.test_report_run.specs.Over.{nothing_known}
 use Rattle.test_report_run.specs.FileEnd.{after_file, command_notes, file_notes, held_reports, held_told, no_event_notes, reports_told}
-use Rattle.test_report_run.specs.Run.{RunSettings, RunState, Step, after, is_cause, is_new_cause, notes_at, run_start, settled, settled_at, step, told}
+use Rattle.test_report_run.specs.Run.{RunSettings, RunState, Step, after, early_end, is_cause, is_new_cause, notes_at, run_start, settled, settled_at, step, told}
 
 -- a note that counts when it becomes known
 abbrev new : NoteView → ℕ
@@ -41,6 +42,10 @@ counted-own r (DamagedLine text) = λ known low. omega (arith, low)
 counted-own r (CommandStarts names) = λ known low. omega (arith, low)
 counted-own r (Cancels why) = λ known low. omega (arith, low)
 counted-own r (CommandOver end) = λ known low. omega (arith, low)
+counted-own r (AllEndEarly end) =
+    let same = aside-early (early_end r end) r in
+    λ known low. omega (arith, low, ap (λ (x : RunState). x.causes) same, ap (λ (x : RunState). waiting x) same)
+counted-own r (ProgramDisagrees fault) = λ known low. omega (arith, low)
 counted-own r e =
     let same = aside-told (ready r e) e refl in
     λ known low. omega (arith, low, ap (λ (x : RunState). x.causes) same, ap (λ (x : RunState). waiting x) same)
@@ -114,7 +119,7 @@ quiet-causes r = omega (
 bound-end : (notes : List NoteView) (r : RunState) → Bound notes r → Bound (notes ++ file_notes r) (after_file r)
 bound-end notes r i =
     let over = (suites_over r).run in
-    let same = aside-early (reported_run r) in
+    let same = aside-early nothing_known (reported_run r) in
     let told = reports-none (only-told r) new (λ report. refl) in
     omega (
       arith,

@@ -10,8 +10,9 @@ use Rattle.run_events_stats.specs.declared.stats.RunStats.{RunStats}
 use Rattle.test_report_events.specs.Event.{EventView, TestEndView}
 use Rattle.test_report_events.specs.declared.event.TestResult.{TestResult}
 use Rattle.test_report_events.specs.declared.event.TestResult.TheVariants.{Ok, Failed, Ignored}
+use Rattle.test_report_events.specs.declared.program.ProgramEnd.{ProgramEnd}
 use Rattle.test_report_run_notes.specs.Finish.{finish_for, view_of_finish}
-use Rattle.test_report_run_notes.specs.Note.{CrashView, Fails, FlakyEnds, HasCrashed, HasFailed, HasNoEnd, HasTimedOut, IsFlaky, IsSkipped, KindView, NoteView, OutcomeView, Passes, SuiteIs, SuiteNoteView, TestIs}
+use Rattle.test_report_run_notes.specs.Note.{CrashView, Fails, FlakyEnds, HasCrashed, HasFailed, HasNoEnd, HasTimedOut, IsFlaky, IsSkipped, IsStopped, KindView, NoteView, OutcomeView, Passes, SuiteIs, SuiteNoteView, TestIs}
 use Rattle.test_report_run_notes.specs.declared.note.RunEnd.{RunEnd}
 use Rattle.test_report_laws.proofs.Books.{Kept, Rules, Within, holds-whole, kept}
 use Rattle.test_report_laws.proofs.EndSums as ends
@@ -20,7 +21,7 @@ use Rattle.test_report_laws.proofs.Sums.{sum-map, sum-none}
 use Rattle.test_report_run.specs.Running.{RunningView}
 use Rattle.test_report_run.specs.Ended.{after_end, after_flaky, end_notes, starts_later, timed}
 use Rattle.test_report_run.specs.Others.{OthersView}
-use Rattle.test_report_run.specs.Over.{bare_failure, crash_again, crash_of, crashed_notes, early_notes, early_state, failed_note, failed_notes, flaky_outcome, last_state, lost, one_failed, one_flaky, rest_of, skipped_note, with_all_flaky, with_failed}
+use Rattle.test_report_run.specs.Over.{bare_failure, crash_again, crash_of, crashed_notes, early_by, early_state, failed_note, failed_notes, flaky_outcome, last_state, lost, one_failed, one_flaky, rest_of, skipped_note, stopped_note, with_all_flaky, with_failed}
 use Rattle.test_report_run.specs.Run.{RunSettings, with_note}
 use Rattle.test_report_run.specs.Totals.{no_suites, with_suite}
 use Rattle.test_report_laws.specs.Whole.{all_notes}
@@ -32,6 +33,7 @@ use Rattle.test_report_laws.proofs.Types.{Explanation}
 abbrev pub with_outcome : RunStats → OutcomeView → ℕ → Bool → RunStats
 with_outcome stats (Passes output) n slow = with_test stats (view_of_finish finish_passed n slow)
 with_outcome stats (IsSkipped reason) n slow = stats
+with_outcome stats IsStopped n slow = stats
 with_outcome stats (Fails f) n slow = with_test stats (view_of_finish (finish_for f.kind) n slow)
 
 -- a flaky test had more than one attempt
@@ -54,10 +56,12 @@ of_suite weight (SuiteIs s) = weight s
 of_suite weight note = 0
 
 -- the notes of a suite that ends have one of the suite
-pub early-suite : (weight : SuiteNoteView → ℕ) (others : OthersView) (s : SuiteState) (tests : List RunningView)
-    → sum_by (of_suite weight) (early_notes others s tests) ≡ of_suite weight (suite_note (early_state s tests) (early_rest s))
-early-suite weight others s tests =
-    omega (arith, by-early (of_suite weight) (λ d. refl) (λ suite n of. refl) false others s tests (λ c name. refl) (λ f. refl))
+pub early-suite : (weight : SuiteNoteView → ℕ) (others : OthersView) (end : Option ProgramEnd) (s : SuiteState) (crashed stopped : List RunningView)
+    → sum_by (of_suite weight) (early_by others end s crashed stopped) ≡ of_suite weight (suite_note (early_state s crashed) (early_rest s stopped))
+early-suite weight others end s crashed stopped = omega (
+  arith,
+  by-early (of_suite weight) (λ d. refl) (λ suite n of. refl) false others end s crashed stopped (λ c name. refl) (λ name. refl) (λ f. refl),
+)
 
 pub last-suite : (weight : SuiteNoteView → ℕ) (s : SuiteState) (e : Explanation) (tests : List RunningView)
     → sum_by (of_suite weight) (last_by s e tests) ≡ of_suite weight (suite_note (last_state s e tests) (rest_of s e tests))
@@ -157,6 +161,10 @@ module _ (counter : RunStats → ℕ) (rule : OutcomeView → ℕ → Bool → �
         sum-map w (failed_note s again) tests,
       )
 
+  -- a test that was stopped counts nowhere
+  stops : (n : ℕ) (slow : Bool) → rule IsStopped n slow ≡ 0
+  stops n slow = omega (arith, counts (counters_of [] [] nothing_known) IsStopped n slow refl)
+
   counts-flaky-one : (failed : Bool) (stats : RunStats) (f : FlakyView) → IsLate f
       → counter (one_flaky failed stats f) ≡ counter stats + rule (flaky_outcome failed f) f.test.attempts f.test.slow
   counts-flaky-one true stats f late = counts stats (flaky_outcome true f) f.test.attempts f.test.slow late
@@ -186,14 +194,15 @@ module _ (counter : RunStats → ℕ) (rule : OutcomeView → ℕ → Bool → �
   no-suite s t e Failed = refl
   no-suite s t e Ignored = refl
 
-  at-early : (others : OthersView) (s : SuiteState) (tests : List RunningView) → All IsLate s.flaky
-      → sum_by w (early_notes others s tests) + counter s.stats ≡ sum_by v (early_notes others s tests)
-  at-early others s tests late = omega (
+  at-early : (others : OthersView) (end : Option ProgramEnd) (s : SuiteState) (crashed stopped : List RunningView) → All IsLate s.flaky
+      → sum_by w (early_by others end s crashed stopped) + counter s.stats ≡ sum_by v (early_by others end s crashed stopped)
+  at-early others end s crashed stopped late = omega (
     arith,
-    ends.of-early w (λ d. refl) (λ suite n of. refl) others s tests,
-    early-suite (λ n. counter n.stats) others s tests,
-    counts-crashed s (crash_of others s (length tests)) s.stats tests,
-    counts-flaky false (with_failed s.stats tests) s.flaky late,
+    ends.of-early w (λ d. refl) (λ suite n of. refl) others end s crashed stopped,
+    early-suite (λ n. counter n.stats) others end s crashed stopped,
+    counts-crashed s (crash_of others end s (length crashed)) s.stats crashed,
+    sum-none (λ test. w (stopped_note s test)) (λ test. stops 1 test.slow) stopped,
+    counts-flaky false (with_failed s.stats crashed) s.flaky late,
   )
 
   at-last : (s : SuiteState) (e : Explanation) (tests : List RunningView) → All IsLate s.flaky
@@ -219,7 +228,7 @@ module _ (counter : RunStats → ℕ) (rule : OutcomeView → ℕ → Bool → �
     empty = empty;
     fine_empty = record { late = All-nil IsLate; passed = omega arith; fair = omega arith };
     of_end = λ s t order e sound. (omega (arith, at-end s t order e e.result, no-suite s t e e.result), end-sound s t order e e.result sound);
-    of_early = λ others s tests sound. exactly (at-early others s tests sound.late);
+    of_early = λ others end s crashed stopped sound. exactly (at-early others end s crashed stopped sound.late);
     of_last = λ s e tests sound. exactly (at-last s e tests sound.late);
   }
 

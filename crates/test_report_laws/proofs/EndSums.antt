@@ -1,13 +1,14 @@
 -- Sums over what becomes known at the end of a suite.
-use Rattle.std.proofs.Common.{◌≡◌, ◌∙◌, ◌∷◌, [], ℕ, List, ◌++◌, ◌+◌, Bool, false, true, cond, arith, map, length, refl, take}
+use Rattle.std.proofs.Common.{◌≡◌, ◌∙◌, ◌∷◌, [], ℕ, List, ◌++◌, ◌+◌, Bool, false, true, cond, Option, arith, map, length, refl, take}
 use Rattle.std.specs.List.{sum_by}
 use Rattle.std.specs.Prelude.{◌-◌}
 use Rattle.std.proofs.lemmas.List.Sums.{sum_by-append, sum_by-cons}
+use Rattle.test_report_events.specs.declared.program.ProgramEnd.{ProgramEnd}
 use Rattle.test_report_run_notes.specs.Note.{CrashView, Disagrees, DisagreementView, HasCrashed, HasNoEnd, IsNotRun, NoteView, SuiteIs}
 use Rattle.test_report_laws.proofs.Sums.{sum-all, sum-map}
 use Rattle.test_report_run.specs.Running.{RunningView}
 use Rattle.test_report_run.specs.Others.{OthersView}
-use Rattle.test_report_run.specs.Over.{crash_again, crash_of, crashed_notes, early_disagreements, early_notes, early_state, failed_note, failed_notes, flaky_note, flaky_notes, initial_of, last_disagreement, last_state, lost, number_notes, rest_of, skipped_note}
+use Rattle.test_report_run.specs.Over.{crash_again, crash_of, crashed_notes, early_by, early_disagreements, early_state, failed_note, failed_notes, flaky_note, flaky_notes, initial_of, last_disagreement, last_state, lost, number_notes, rest_of, skipped_note, stopped_note}
 use Rattle.test_report_run.specs.Suite.{FlakyView, SuiteState, suite_name}
 use Rattle.test_report_laws.proofs.Types.{Explanation, Rest}
 
@@ -22,8 +23,8 @@ suite_note s rest = SuiteIs record {
   time = rest.time;
 }
 
-abbrev pub early_rest : SuiteState → Rest
-early_rest s = record { skipped = s.skipped; left = 0; time = s.time }
+abbrev pub early_rest : SuiteState → List RunningView → Rest
+early_rest s stopped = record { skipped = s.skipped; left = length stopped; time = s.time }
 
 -- what becomes known of a suite that ends by its last line, which explains this
 abbrev pub last_by : SuiteState → Explanation → List RunningView → List NoteView
@@ -59,12 +60,14 @@ module _ (w : NoteView → ℕ) (not_run : (suite : List ℕ) (n of : ℕ) → w
   of-numbers s rest = grind (arith, not_run)
 
   -- what becomes known of a suite that ends early: its running tests, its flaky tests and its numbers
-  pub of-early-all : (others : OthersView) (s : SuiteState) (tests : List RunningView) → sum_by w (early_notes others s tests)
-      ≡ sum_by w (crashed_notes s (crash_of others s (length tests)) tests)
+  pub of-early-all : (others : OthersView) (end : Option ProgramEnd) (s : SuiteState) (crashed stopped : List RunningView)
+      → sum_by w (early_by others end s crashed stopped)
+      ≡ sum_by w (crashed_notes s (crash_of others end s (length crashed)) crashed)
+      + (sum_by (λ test. w (stopped_note s test)) stopped
       + (sum_by (λ f. w (flaky_note s false f)) s.flaky
-      + (sum_by w (early_disagreements s (length tests)) + w (suite_note (early_state s tests) (early_rest s))))
-  of-early-all others s tests =
-      simp (sum_by-append, sum-map) (omega (arith, simp sum_by-append at (of-numbers (early_state s tests) (early_rest s))))
+      + (sum_by w (early_disagreements s end (length crashed)) + w (suite_note (early_state s crashed) (early_rest s stopped)))))
+  of-early-all others end s crashed stopped =
+      simp (sum_by-append, sum-map) (omega (arith, simp sum_by-append at (of-numbers (early_state s crashed) (early_rest s stopped))))
 
   -- what becomes known of a suite that ends by its last line
   pub of-last-all : (s : SuiteState) (e : Explanation) (tests : List RunningView) → sum_by w (last_by s e tests)
@@ -78,16 +81,19 @@ module _ (w : NoteView → ℕ) (not_run : (suite : List ℕ) (n of : ℕ) → w
 -- a weight of notes, in which those that name no test and no suite weigh nothing
 module _ (w : NoteView → ℕ) (disagree : (d : DisagreementView) → w (Disagrees d) ≡ 0)
     (not_run : (suite : List ℕ) (n of : ℕ) → w (IsNotRun suite n of) ≡ 0) where
-  pub of-early_disagreements : (s : SuiteState) (crashed : ℕ) → sum_by w (early_disagreements s crashed) ≡ 0
-  of-early_disagreements s crashed = grind (arith, disagree)
+  pub of-early_disagreements : (s : SuiteState) (end : Option ProgramEnd) (crashed : ℕ) → sum_by w (early_disagreements s end crashed) ≡ 0
+  of-early_disagreements s end crashed = grind (arith, disagree)
 
   of-last_disagreement : (s : SuiteState) → sum_by w (last_disagreement s) ≡ 0
   of-last_disagreement s = grind (arith, disagree)
 
-  pub of-early : (others : OthersView) (s : SuiteState) (tests : List RunningView) → sum_by w (early_notes others s tests)
-      ≡ sum_by w (crashed_notes s (crash_of others s (length tests)) tests)
-      + (sum_by (λ f. w (flaky_note s false f)) s.flaky + w (suite_note (early_state s tests) (early_rest s)))
-  of-early others s tests = omega (arith, of-early-all w not_run others s tests, of-early_disagreements s (length tests))
+  pub of-early : (others : OthersView) (end : Option ProgramEnd) (s : SuiteState) (crashed stopped : List RunningView)
+      → sum_by w (early_by others end s crashed stopped)
+      ≡ sum_by w (crashed_notes s (crash_of others end s (length crashed)) crashed)
+      + (sum_by (λ test. w (stopped_note s test)) stopped
+      + (sum_by (λ f. w (flaky_note s false f)) s.flaky + w (suite_note (early_state s crashed) (early_rest s stopped))))
+  of-early others end s crashed stopped =
+      omega (arith, of-early-all w not_run others end s crashed stopped, of-early_disagreements s end (length crashed))
 
   pub of-last : (s : SuiteState) (e : Explanation) (tests : List RunningView) → sum_by w (last_by s e tests)
       ≡ sum_by (λ test. w (failed_note s HasNoEnd test)) (lost e tests)
@@ -96,14 +102,17 @@ module _ (w : NoteView → ℕ) (disagree : (d : DisagreementView) → w (Disagr
   of-last s e tests = omega (arith, of-last-all w not_run s e tests, of-last_disagreement (last_state s e tests))
 
   -- the same where each test of a kind weighs 1, or each of them nothing
-  pub by-early : (crashes : Bool) (others : OthersView) (s : SuiteState) (tests : List RunningView)
+  pub by-early : (crashes : Bool) (others : OthersView) (end : Option ProgramEnd) (s : SuiteState) (crashed stopped : List RunningView)
       → ((c : CrashView) (test : RunningView) → w (failed_note s (HasCrashed c) test) ≡ cond crashes 1 0)
+      → ((test : RunningView) → w (stopped_note s test) ≡ 0)
       → ((f : FlakyView) → w (flaky_note s false f) ≡ 0)
-      → sum_by w (early_notes others s tests) ≡ cond crashes (length tests) 0 + w (suite_note (early_state s tests) (early_rest s))
-  by-early crashes others s tests crash flaky = omega (
+      → sum_by w (early_by others end s crashed stopped)
+      ≡ cond crashes (length crashed) 0 + w (suite_note (early_state s crashed) (early_rest s stopped))
+  by-early crashes others end s crashed stopped crash stop flaky = omega (
     arith,
-    of-early others s tests,
-    sum-crashed w crashes s crash (crash_of others s (length tests)) tests,
+    of-early others end s crashed stopped,
+    sum-crashed w crashes s crash (crash_of others end s (length crashed)) crashed,
+    sum-all (λ test. w (stopped_note s test)) false stop stopped,
     sum-all (λ f. w (flaky_note s false f)) false flaky s.flaky,
   )
 

@@ -8,15 +8,16 @@ use Rattle.test_report_events.specs.Event.{CommandView}
 use Rattle.test_report_run_notes.specs.Note.{CommandFails, DisagreementView, Disagrees, HasNoEvent, NoteView, ended_well, was_not_started}
 use Rattle.test_report_laws.proofs.CargoReports.{only-told, reports-none}
 use Rattle.test_report_laws.proofs.Sums.{sum-if-none}
-use Rattle.test_report_run.specs.FileEnd.{all_ended_early, command_fails, command_notes, file_end, file_name, file_notes, no_event_notes, reports_told}
-use Rattle.test_report_run.specs.Run.{RunState, Step, learned}
+use Rattle.test_report_run.specs.FileEnd.{command_fails, command_notes, file_end, file_name, file_notes, no_event_notes, reports_told}
+use Rattle.test_report_run.specs.Over.{nothing_known}
+use Rattle.test_report_run.specs.Run.{RunState, Step, all_ended_early, learned, unless_cancelled}
 
 -- the run when its failures of cargo are known, what its suites make known then, and the run when all of this is counted
 abbrev pub reported_run : RunState → RunState
 reported_run r = (reports_told r).run
 
 abbrev pub suites_over : RunState → Step
-suites_over r = all_ended_early (reported_run r)
+suites_over r = all_ended_early nothing_known (reported_run r)
 
 abbrev pub counted_run : RunState → RunState
 counted_run r = learned (file_end r).run (file_end r).notes
@@ -43,9 +44,10 @@ module _ (w : NoteView → ℕ) where
     command-none r = by-end r.command
       where
         by-end : (o : Option CommandView)
-            → sum_by w (option_map_or (λ end. if command_fails r.causes end then Disagrees (CommandFails end) ∷ [] else []) o []) ≡ 0
+            → sum_by w (option_map_or (λ end. if command_fails r.causes end then Disagrees (unless_cancelled r (CommandFails end)) ∷ [] else []) o []) ≡ 0
         by-end None = refl
-        by-end (Some end) = sum-if-none w (command_fails r.causes end) (Disagrees (CommandFails end)) (disagree (CommandFails end))
+        by-end (Some end) =
+            let d = unless_cancelled r (CommandFails end) in sum-if-none w (command_fails r.causes end) (Disagrees d) (disagree d)
 
     pub suites-alone : (r : RunState) → sum_by w (file_notes r) ≡ sum_by w (suites_over r).notes
     suites-alone r = omega (

@@ -6,7 +6,7 @@ use Rattle.std.specs.Prelude.{◌==◌, ◌&&◌, ◌||◌, if◌then◌else◌,
 use Rattle.std.proofs.lemmas.Bool.{cases_lt, eqb-true}
 use Rattle.std.proofs.lemmas.Bool.Decides.{nat_tests}
 use Rattle.std.proofs.lemmas.List.Sums.{sum_by-append, sum_by-cons}
-use Rattle.test_report_events.specs.Event.{BySignal, CargoFails, CommandOver, CommandStarts, Cancels, CommandView, DamagedLine, EventView, HeadingLine, NotStarted, OtherLine, Prints, SuiteEnds, SuiteStarts, TestEnds, TestIsSlow, TestStarts, WithStatus}
+use Rattle.test_report_events.specs.Event.{AllEndEarly, BySignal, CargoFails, CommandOver, CommandStarts, Cancels, CommandView, DamagedLine, EventView, HeadingLine, NotStarted, OtherLine, Prints, ProgramDisagrees, SuiteEnds, SuiteStarts, TestEnds, TestIsSlow, TestStarts, WithError, WithStatus}
 use Rattle.test_report_run_notes.specs.Note.{CommandFails, Disagrees, HasNoEvent, ended_well, was_not_started}
 use Rattle.test_report_laws.proofs.Aside.{aside-early}
 use Rattle.test_report_laws.proofs.CargoReports.{only-cargo, only-settled_at, only-told, ready}
@@ -19,7 +19,8 @@ use Rattle.test_report_laws.specs.Run.{CommandEndShows, IsClean, NoEventShows, e
 use Rattle.test_report_run.specs.Events.{is_event}
 use Rattle.test_report_laws.specs.Whole.{IsFileEndOf, all_notes, notes_of, run_after, run_after_file, run_after_files}
 use Rattle.test_report_run.specs.FileEnd.{command_fails, file_name, file_notes, reports_told}
-use Rattle.test_report_run.specs.Run.{RunSettings, RunState, after, is_cause, run_start, told}
+use Rattle.test_report_run.specs.Over.{nothing_known}
+use Rattle.test_report_run.specs.Run.{RunSettings, RunState, after, early_end, is_cause, run_start, told, unless_cancelled}
 
 -- lines that are no events of a harness
 none-told : (r : RunState) (e : EventView) → is_event e ≡ false → (told r e).run.has_event ≡ r.has_event
@@ -36,6 +37,8 @@ none-told r (DamagedLine text) other = refl
 none-told r (CommandStarts names) other = refl
 none-told r (Cancels why) other = refl
 none-told r (CommandOver end) other = refl
+none-told r (AllEndEarly end) other = ap (λ (x : RunState). x.has_event) (aside-early (early_end r end) r)
+none-told r (ProgramDisagrees fault) other = refl
 
 none-after : (r : RunState) (e : EventView) → is_event e ≡ false → (after r e).has_event ≡ (told (ready r e) e).run.has_event
 none-after r (SuiteStarts key count) other = absurd (cc)
@@ -76,7 +79,7 @@ silent-cause : (r : RunState) → r.has_event ≡ false → r.command ≡ None �
 silent-cause r none alone zero =
     let over = (suites_over r).run in
     let told = (only-told r).run_is in
-    let same = aside-early (reported_run r) in
+    let same = aside-early nothing_known (reported_run r) in
     let one = one-if-silent over.has_event over.causes_at_file over.causes over.command (file_name over)
     (ap (λ (x : RunState). x.has_event) same ∙ (ap (λ (x : RunState). x.has_event) told ∙ none)) (ap (λ (x : RunState). x.causes) same ∙ zero)
     (ap (λ (x : RunState). x.command) same ∙ (ap (λ (x : RunState). x.command) told ∙ alone)) in
@@ -93,17 +96,19 @@ abbrev status_of : CommandView → ℕ
 status_of (NotStarted error) = 0
 status_of (BySignal number) = 0
 status_of (WithStatus code) = code
+status_of (WithError code words) = 0
 
 fails : (causes : ℕ) (end : CommandView) → end ≢ WithStatus 0 → causes ≡ 0 → command_fails causes end ≡ true
 fails causes (NotStarted error) other zero = refl
 fails causes (BySignal number) other zero = refl
 fails causes (WithStatus code) other zero = grind (arith, nat_tests, zero, not-zero code other)
+fails causes (WithError code words) other zero = grind (arith, nat_tests, zero)
 
-one-if-fails : (causes : ℕ) (o : Option CommandView) (end : CommandView) → o ≡ Some end → end ≢ WithStatus 0 → causes ≡ 0
-    → sum_by weight (option_map_or (λ end. if command_fails causes end then Disagrees (CommandFails end) ∷ [] else []) o []) ≡ 1
-one-if-fails causes None end is other zero = absurd (cc)
-one-if-fails causes (Some e) end is other zero =
-    let disagrees : command_fails causes e ≡ true = fails causes e (λ same. other (cc)) zero in grind (arith, disagrees)
+one-if-fails : (r : RunState) (o : Option CommandView) (end : CommandView) → o ≡ Some end → end ≢ WithStatus 0 → r.causes ≡ 0
+    → sum_by weight (option_map_or (λ end. if command_fails r.causes end then Disagrees (unless_cancelled r (CommandFails end)) ∷ [] else []) o []) ≡ 1
+one-if-fails r None end is other zero = absurd (cc)
+one-if-fails r (Some e) end is other zero = ap (λ (b : Bool). sum_by weight (if b then Disagrees (unless_cancelled r (CommandFails e)) ∷ [] else []))
+    (fails r.causes e (λ same. other (cc)) zero)
 
 command-cause : (r : RunState) (end : CommandView) → r.command ≡ Some end → end ≢ WithStatus 0 → (reported_run r).causes ≡ 0
     → 0 < count_by is_cause (file_notes r)
@@ -112,9 +117,9 @@ command-cause r end is other zero = elim (cases_lt 0 (count_by is_cause (file_no
   | inr few ↦
       let over = (suites_over r).run in
       let told = (only-told r).run_is in
-      let same = aside-early (reported_run r) in
+      let same = aside-early nothing_known (reported_run r) in
       let causes : (counted_run r).causes ≡ 0 = omega (arith, few, quiet-causes r, ap (λ (x : RunState). x.causes) same, zero) in
-      let one = one-if-fails (counted_run r).causes (counted_run r).command end
+      let one = one-if-fails (counted_run r) (counted_run r).command end
       (ap (λ (x : RunState). x.command) same ∙ (ap (λ (x : RunState). x.command) told ∙ is)) other causes in
       omega (arith, one, end-parts weight r)
 ]
@@ -158,6 +163,7 @@ module _ (settings : RunSettings) (files : List (List EventView)) (clean : IsCle
   ended-as : (end : CommandView) → (end ≢ WithStatus 0 → ⊥) → end ≡ WithStatus 0
   ended-as (NotStarted error) never = absurd (never (λ h. cc))
   ended-as (BySignal number) never = absurd (never (λ h. cc))
+  ended-as (WithError code words) never = absurd (never (λ h. cc))
   ended-as (WithStatus code) never = elim (cases_lt 0 code) [
     | inl some ↦ absurd (never (λ h. omega (arith, some, ap status_of h)))
     | inr none ↦ ap WithStatus (omega (arith, none))

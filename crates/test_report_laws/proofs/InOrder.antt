@@ -6,7 +6,7 @@ use Rattle.std.specs.Prelude.{◌==◌, if◌then◌else◌}
 use Rattle.std.proofs.lemmas.Bool.{cases_lt}
 use Rattle.std.proofs.lemmas.List.Elements.{All-get_or}
 use Rattle.std.proofs.lemmas.List.Sums.{sum_by-append}
-use Rattle.test_report_events.specs.Event.{EventView, SuiteEndView, SuiteEnds, SuiteStarts}
+use Rattle.test_report_events.specs.Event.{AllEndEarly, EventView, SuiteEndView, SuiteEnds, SuiteStarts}
 use Rattle.test_report_run_notes.specs.Note.{NoteView, failed_of}
 use Rattle.test_report_laws.proofs.Announced.{announced-counted}
 use Rattle.test_report_laws.proofs.Books.{position-in}
@@ -22,11 +22,11 @@ use Rattle.test_report_laws.proofs.Outcomes.{outcome-means}
 use Rattle.test_report_laws.proofs.Shown.{last-agrees, stray-shows}
 use Rattle.test_report_laws.proofs.Sound.{failures-known, suites-sound}
 use Rattle.test_report_laws.proofs.Tallies.{totals-count}
-use Rattle.test_report_laws.proofs.Verdicts.{early-cause, end-causes, outside-cause, unclean}
+use Rattle.test_report_laws.proofs.Verdicts.{all-causes, early-cause, end-causes, outside-cause, outside-shows, unclean}
 use Rattle.test_report_laws.proofs.Weights.{all-numbered, has-number, numbered-ready, unnumbered, weight_of}
 use Rattle.test_report_laws.specs.Run.{Agrees, IsClean, IsSound, failed_in, failed_verdicts_of, is_test, not_run_of, passed_in}
-use Rattle.test_report_run.specs.Over.{last_notes}
-use Rattle.test_report_run.specs.Run.{RunSettings, RunState, counts_tests, ended_at, has_failed, is_cause, is_disagreement, notes_at, open_suite, opened, run_start, settled_at, started_again, step, stray_suite_notes, suite_at, tests_in, told, with_suite_at, without_tests}
+use Rattle.test_report_run.specs.Over.{last_notes, nothing_known}
+use Rattle.test_report_run.specs.Run.{RunSettings, RunState, counts_tests, early_end, ended_at, has_failed, is_cause, is_disagreement, notes_at, open_suite, opened, run_start, settled_at, started_again, step, stray_suite_notes, suite_at, tests_in, told, with_suite_at, without_tests}
 use Rattle.test_report_run.specs.Said.{numbers_of}
 use Rattle.test_report_laws.specs.Status.{EndsInOrder, IsInOrder, SuccessIsInOrder}
 use Rattle.test_report_run.specs.Suite.{SuiteState, cancelled_by, has_key, with_line}
@@ -125,7 +125,8 @@ module _ (settings : RunSettings) (files : List (List EventView)) (clean : IsCle
   none-ends r count (Some at) is fine none =
       let s = suite_at r (Some at) in
       let own = cancelled_by r.cancel s in
-      absurd (omega (arith, none, early-cause r.others own (tests_in r s) (has-number r at fine (position-in (has_key None) r.suites (Some at) is))))
+      let some = has-number r at fine (position-in (has_key None) r.suites (Some at) is) in
+      absurd (omega (arith, none, early-cause r.others nothing_known own (tests_in r s) (λ zero. absurd (some zero))))
 
   not-one : (b : Bool) → ◌≡◌ {A = ℕ} (if b then 1 else 0) 0 → b ≡ false
   not-one true h = absurd (cc)
@@ -162,6 +163,13 @@ module _ (settings : RunSettings) (files : List (List EventView)) (clean : IsCle
         nothing-in r.suites (omega (arith, no-cause, end-weighs weight settings files r end, end-causes r (numbered r end.before end.file end.run_is)));
     none_outside = λ r end. zero-or-absurd r.outside.started
         (λ some. absurd (omega (arith, no-cause, end-weighs weight settings files r end, outside-cause r some)));
+    none_early = λ r end line.
+        let how = early_end r end in
+        let quiet = own-by weight r (AllEndEarly end) line in
+        let causes = all-causes how r (numbered r line.before line.lines line.run_is) in (
+          nothing-in r.suites (omega (arith, no-cause, quiet, causes)),
+          zero-or-absurd r.outside.started (λ some. absurd (omega (arith, no-cause, quiet, outside-shows how r some))),
+        );
     announced = omega (arith, announced-counted settings files, (totals-count settings files).not_run, clean.all_run);
     cargo = λ r f line plain at never none.
         absurd (omega (arith, cargo-shows settings files r f line plain at none never, clean.none_failed, clean.none_disagree));

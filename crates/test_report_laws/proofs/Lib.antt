@@ -15,7 +15,13 @@ pub mod InOrder
 pub mod LineParts
 pub mod NotRun
 pub mod Outcomes
+pub mod Outside
 pub mod OverRuns
+pub mod ProgramCauses
+pub mod ProgramEvents
+pub mod ProgramFiles
+pub mod ProgramRuns
+pub mod ProgramSteps
 pub mod RunCauses
 pub mod RunReasons
 pub mod Shown

@@ -1,25 +1,26 @@
 -- The outcome of a run, by the sums over its suites.
 use Rattle.std.proofs.Common.{◌≡◌, ◌≢◌, ◌∙◌, ℕ, List, [], ◌∷◌, ◌+◌, ◌<◌, Bool, true, false, Option, Some, None, refl, ap, arith, subst, sym}
 use Rattle.std.specs.List.{fold, sum_by}
-use Rattle.std.specs.Prelude.{◌==◌, if◌then◌else◌, nat_lt}
+use Rattle.std.specs.Prelude.{◌==◌, if◌then◌else◌, nat_le, nat_lt}
 use Rattle.std.proofs.lemmas.Bool.{eqb-false, eqb-true, ltb-false, ltb-true}
 use Rattle.std.proofs.lemmas.Bool.Decides.{nat_tests}
 use Rattle.std.proofs.lemmas.List.Sums.{sum_by-cons}
 use Rattle.run_events_results.specs.declared.results.CancelReason.{CancelReason}
+use Rattle.run_events_stats.specs.Outcome.{combined, outcome_rank}
 use Rattle.run_events_stats.specs.Summary.{failed_tests}
 use Rattle.run_events_stats.specs.declared.outcome.RunFailureStep.TheVariants as step
 use Rattle.run_events_stats.specs.declared.outcome.run_outcome.RunOutcome.{RunOutcome}
 use Rattle.run_events_stats.specs.declared.outcome.run_outcome.RunOutcome.TheVariants as outcome
 use Rattle.run_events_stats.specs.declared.stats.RunStats.{RunStats}
 use Rattle.test_report_events.specs.Event.{EventView}
-use Rattle.test_report_run_notes.specs.Note.{Fails, FlakyEnds, IsSkipped, NoteView, OutcomeView, Passes, SuiteIs, SuiteNoteView, TestIs}
+use Rattle.test_report_run_notes.specs.Note.{Fails, FlakyEnds, IsSkipped, IsStopped, NoteView, OutcomeView, Passes, SuiteIs, SuiteNoteView, TestIs}
 use Rattle.test_report_run_notes.specs.declared.note.RunEnd.{RunEnd}
 use Rattle.test_report_laws.proofs.Counters.{of_suite, of_test, sums-up, with_outcome, fits}
 use Rattle.test_report_laws.proofs.Sums.{sum-none}
 use Rattle.test_report_laws.proofs.Tallies.{counted, failed-total, run-sums}
 use Rattle.test_report_laws.specs.Run.{Counts, IsClean, Means, OutcomeMeans, disagreements_in, failed_in, not_run_in}
 use Rattle.test_report_run.specs.Run.{RunSettings, run_start, with_note}
-use Rattle.test_report_run.specs.Totals.{no_suites, suite_outcome, with_suite}
+use Rattle.test_report_run.specs.Totals.{ending, no_suites, suite_outcome, with_suite}
 use Rattle.test_report_laws.specs.Whole.{all_notes, run_after_files}
 
 -- the outcome of tests: some failed, some were not run, none finished
@@ -42,6 +43,7 @@ scripts_of s =
 scripts-counts : (stats : RunStats) (o : OutcomeView) (n : ℕ) (slow : Bool) → fits o n ≡ true → scripts_of (with_outcome stats o n slow) ≡ scripts_of stats + 0
 scripts-counts stats (Passes output) n slow fit = omega arith
 scripts-counts stats (IsSkipped reason) n slow fit = omega arith
+scripts-counts stats IsStopped n slow fit = omega arith
 scripts-counts stats (Fails f) n slow fit = omega arith
 
 none-of : (note : NoteView) → of_test (λ o n slow. 0) note ≡ 0
@@ -85,9 +87,25 @@ outcome-fold e (note ∷ notes) none is =
 outcome-of-sums : (settings : RunSettings) (files : List (List EventView)) → IsOf (fold with_note no_suites (all_notes settings files))
 outcome-of-sums settings files = outcome-fold no_suites (all_notes settings files) (no-scripts settings files) refl
 
+-- the outcome with disagreements, of which some do not say that the run was cancelled, or all do
+abbrev with_disagreements : Bool → RunOutcome → RunOutcome
+with_disagreements beyond o = if beyond then outcome.Failed step.Test else combined o (outcome.Cancelled step.Test)
+
+-- it is one of a higher rank than that of a clean run
+abbrev is_wrong : RunOutcome → Bool
+is_wrong o = nat_lt 1 (outcome_rank o)
+
+wrong-with : (beyond : Bool) (o : RunOutcome) → is_wrong (with_disagreements beyond o) ≡ true
+wrong-with true o = refl
+wrong-with false o = elim (nat_le (outcome_rank o) 2) as (λ b. nat_le (outcome_rank o) 2 ≡ b → is_wrong (if b then outcome.Cancelled step.Test else o) ≡ true) [
+  | true ↦ λ low. refl
+  | false ↦ λ high. grind (arith, nat_tests)
+] refl
+
 -- what an outcome says
-abbrev end_outcome : (disagree failed not_run none : Bool) → RunOutcome
-end_outcome disagree failed not_run none = if disagree then outcome.Failed step.Test else outcome_by failed not_run none
+abbrev end_outcome : (beyond disagree failed not_run none : Bool) → RunOutcome
+end_outcome beyond disagree failed not_run none =
+    if disagree then with_disagreements beyond (outcome_by failed not_run none) else outcome_by failed not_run none
 
 -- the outcome by the numbers of notes: another one where something is wrong
 other : (notes : List NoteView) (o : RunOutcome) → 0 < failed_in notes + disagreements_in notes + not_run_in notes → o ≢ outcome.Success
@@ -98,15 +116,16 @@ other notes o some a b = record {
   others = λ _ _. some;
 }
 
-means : (notes : List NoteView) (e : RunEnd) (d f m z : Bool) → Counts notes e → failed_tests e.stats ≡ failed_in notes
+means : (notes : List NoteView) (e : RunEnd) (b d f m z : Bool) → Counts notes e → failed_tests e.stats ≡ failed_in notes
     → nat_lt 0 (disagreements_in notes) ≡ d → nat_lt 0 (failed_tests e.stats) ≡ f → nat_lt 0 e.not_run ≡ m → (e.stats.finished_count == 0) ≡ z
-    → Means notes (end_outcome d f m z)
-means notes e true f m z sums failed hd hf hm hz =
-    other notes _ (omega (arith, ltb-true 0 (disagreements_in notes) hd)) (λ e. cc) (λ e. cc)
-means notes e false true m z sums failed hd hf hm hz =
+    → Means notes (end_outcome b d f m z)
+means notes e b true f m z sums failed hd hf hm hz =
+    let wrong = wrong-with b (outcome_by f m z) in
+    other notes _ (omega (arith, ltb-true 0 (disagreements_in notes) hd)) (λ h. cc) (λ h. cc)
+means notes e b false true m z sums failed hd hf hm hz =
     other notes _ (omega (arith, ltb-true 0 (failed_tests e.stats) hf)) (λ e. cc) (λ e. cc)
-means notes e false false true z sums failed hd hf hm hz = other notes _ (omega (arith, ltb-true 0 e.not_run hm)) (λ e. cc) (λ e. cc)
-means notes e false false false z sums failed hd hf hm hz =
+means notes e b false false true z sums failed hd hf hm hz = other notes _ (omega (arith, ltb-true 0 e.not_run hm)) (λ e. cc) (λ e. cc)
+means notes e b false false false z sums failed hd hf hm hz =
     let clean : IsClean notes = record {
       none_failed = omega (arith, ltb-false 0 (failed_tests e.stats) hf);
       none_disagree = omega (arith, ltb-false 0 (disagreements_in notes) hd);
@@ -114,7 +133,7 @@ means notes e false false false z sums failed hd hf hm hz =
     } in
     by-tests-run z hz clean
   where
-    by-tests-run : (z : Bool) → (e.stats.finished_count == 0) ≡ z → IsClean notes → Means notes (end_outcome false false false z)
+    by-tests-run : (z : Bool) → (e.stats.finished_count == 0) ≡ z → IsClean notes → Means notes (end_outcome b false false false z)
     by-tests-run true none clean = record {
       success = ((λ e. absurd (cc)), (λ h. absurd (omega (arith, h.1, eqb-true e.stats.finished_count 0 none))));
       no_tests = ((λ _. (clean, omega (arith, eqb-true e.stats.finished_count 0 none))), (λ _. refl));
@@ -126,17 +145,27 @@ means notes e false false false z sums failed hd hf hm hz =
       others = λ a b. absurd (a refl);
     }
 
-ending-outcome : (e : RunEnd) (disagree : Bool)
-    → (if disagree then record e { outcome = outcome.Failed step.Test } else e).outcome ≡ (if disagree then outcome.Failed step.Test else e.outcome)
-ending-outcome e true = refl
-ending-outcome e false = refl
+ending-outcome : (e : RunEnd) (disagreements cancels : ℕ) → (ending e disagreements cancels).outcome
+    ≡ (if nat_lt 0 disagreements then with_disagreements (nat_lt cancels disagreements) e.outcome else e.outcome)
+ending-outcome e disagreements cancels = by-tests (nat_lt cancels disagreements) (nat_lt 0 disagreements) refl refl
+  where
+    by-tests : (beyond disagree : Bool) → nat_lt cancels disagreements ≡ beyond → nat_lt 0 disagreements ≡ disagree
+        → (if beyond then record e { outcome = outcome.Failed step.Test }
+        else if disagree then record e { outcome = combined e.outcome (outcome.Cancelled step.Test) }
+        else e).outcome
+        ≡ (if disagree then with_disagreements beyond e.outcome else e.outcome)
+    by-tests true true more some = refl
+    by-tests true false more none = absurd (omega (arith, ltb-true cancels disagreements more, ltb-false 0 disagreements none))
+    by-tests false true few some = refl
+    by-tests false false few none = refl
 
 pub outcome-means : OutcomeMeans
 outcome-means settings files =
     let notes = all_notes settings files in
     let r = run_after_files (run_start settings) files in
     let e = fold with_note no_suites notes in
-    let is = ending-outcome r.totals (nat_lt 0 r.disagreements)
-    ∙ (ap (λ s. if nat_lt 0 s.1 then outcome.Failed step.Test else s.0.outcome) (run-sums settings files)
-    ∙ ap (λ o. if nat_lt 0 (disagreements_in notes) then outcome.Failed step.Test else o) (outcome-of-sums settings files)) in
-    subst (Means notes) (sym is) (means notes e _ _ _ _ (counted settings files e.outcome) (failed-total settings files) refl refl refl refl)
+    let beyond = nat_lt r.cancels r.disagreements in
+    let is = ending-outcome r.totals r.disagreements r.cancels
+    ∙ (ap (λ s. if nat_lt 0 s.1 then with_disagreements beyond s.0.outcome else s.0.outcome) (run-sums settings files)
+    ∙ ap (λ o. if nat_lt 0 (disagreements_in notes) then with_disagreements beyond o else o) (outcome-of-sums settings files)) in
+    subst (Means notes) (sym is) (means notes e beyond _ _ _ _ (counted settings files e.outcome) (failed-total settings files) refl refl refl refl)

@@ -1,6 +1,6 @@
 -- Why a run does not succeed.
 use Rattle.std.proofs.Common.{◌≡◌, ◌≢◌, ◌<◌, ◌+◌, ◌∷◌, [], ℕ, List, refl, arith, inl, inr}
-use Rattle.std.specs.List.{sum_by}
+use Rattle.std.specs.List.{count_by, sum_by}
 use Rattle.std.specs.Prelude.{◌⊎◌, Contains, IsTrue}
 use Rattle.std.proofs.lemmas.Bool.{cases_lt}
 use Rattle.std.proofs.lemmas.List.Elements.{Contains-append_right}
@@ -9,11 +9,12 @@ use Rattle.run_events_stats.specs.declared.outcome.run_outcome.RunOutcome.{RunOu
 use Rattle.run_events_stats.specs.declared.outcome.run_outcome.RunOutcome.TheVariants as outcome
 use Rattle.test_report_run_notes.specs.Note.{Disagrees, FlakyEnds, IsNotRun, NoteView, SuiteIs, TestIs}
 use Rattle.test_report_laws.proofs.RunCauses.{causes-of, weight}
-use Rattle.test_report_laws.proofs.NotRun.{not-run-named}
+use Rattle.test_report_laws.proofs.NotRun.{of_suites, suites-named}
 use Rattle.test_report_laws.proofs.Outcomes.{outcome-means}
 use Rattle.test_report_laws.proofs.Sums.{sum-both}
-use Rattle.test_report_laws.specs.Run.{Means, not_run_in, passed_in}
-use Rattle.test_report_laws.specs.Status.{FailureHasReason, is_reason, named_not_run}
+use Rattle.test_report_laws.specs.Run.{Means, disagreements_in, failed_in, not_run_in, passed_in}
+use Rattle.test_report_run.specs.Run.{is_cause}
+use Rattle.test_report_laws.specs.Status.{FailureHasReason, is_reason}
 use Rattle.test_report_laws.specs.Whole.{all_notes, whole_end}
 
 -- an element that weighs something
@@ -28,7 +29,7 @@ some-in w (x ∷ xs) some = elim (cases_lt 0 (w x)) [
 
 -- what a reason weighs
 abbrev reason : NoteView → ℕ
-reason note = weight note + named_not_run note
+reason note = weight note + of_suites note
 
 is-reason : (note : NoteView) → 0 < reason note → IsTrue (is_reason note)
 is-reason (TestIs t) some = grind arith
@@ -40,17 +41,21 @@ is-reason (SuiteIs s) some = absurd (omega arith)
 reason-in : (notes : List NoteView) → 0 < sum_by reason notes → (note : NoteView) × Contains notes note × IsTrue (is_reason note)
 reason-in notes some = let found = some-in reason notes some in (found.0, found.1, is-reason found.0 found.2)
 
-by-outcome : (notes : List NoteView) (o : RunOutcome) → sum_by named_not_run notes ≡ not_run_in notes → Means notes o → o ≢ outcome.Success
+some-reason : (notes : List NoteView) → (count_by is_cause notes ≡ 0 → sum_by of_suites notes ≡ not_run_in notes)
+    → 0 < failed_in notes + disagreements_in notes + not_run_in notes → 0 < sum_by reason notes
+some-reason notes named some =
+    let parts = sum-both reason weight of_suites (λ x. refl) notes in
+    elim (cases_lt 0 (count_by is_cause notes)) [
+      | inl more ↦ omega (arith, parts)
+      | inr none ↦ omega (arith, parts, named (omega (arith, none)), causes-of notes)
+    ]
+
+by-outcome : (notes : List NoteView) (o : RunOutcome) → (count_by is_cause notes ≡ 0 → sum_by of_suites notes ≡ not_run_in notes) → Means notes o
+    → o ≢ outcome.Success
     → ((note : NoteView) × Contains notes note × IsTrue (is_reason note)) ⊎ ((o ≡ outcome.NoTestsRun) × (passed_in notes ≡ 0))
 by-outcome notes outcome.NoTestsRun named means fails = inr (refl, (means.no_tests.0 refl).1)
-by-outcome notes o named means fails = inl (reason-in notes (omega (
-  arith,
-  named,
-  causes-of notes,
-  sum-both reason weight named_not_run (λ x. refl) notes,
-  means.others fails (λ h. cc),
-)))
+by-outcome notes o named means fails = inl (reason-in notes (some-reason notes named (means.others fails (λ h. cc))))
 
 pub failure-reason : FailureHasReason
-failure-reason settings files = by-outcome (all_notes settings files) (whole_end settings files).outcome (not-run-named settings files)
+failure-reason settings files = by-outcome (all_notes settings files) (whole_end settings files).outcome (suites-named settings files)
     (outcome-means settings files)

@@ -6,6 +6,7 @@ use Rattle.std.specs.Prelude.{◌==◌, ◌↔◌, IfSome, IsTrue, if◌then◌e
 use Rattle.std.proofs.lemmas.Bool.Decides.{nat_tests}
 use Rattle.std.proofs.lemmas.Bool.{or_from, or_parts}
 use Rattle.test_report_events.specs.Event.{SuiteEndView}
+use Rattle.test_report_events.specs.declared.program.ProgramEnd.{ProgramEnd}
 use Rattle.test_report_run_notes.specs.Note.{Disagrees, HasNoEnd, NoteView, StraySuiteEnds, failed_of}
 use Rattle.test_report_run_notes.specs.declared.note.SaidNumbers.{SaidNumbers}
 use Rattle.test_report_laws.proofs.Counters.{after-last, of_test}
@@ -17,7 +18,7 @@ use Rattle.test_report_run.specs.Running.{RunningView}
 use Rattle.test_report_run.specs.LastLine.{is_contradicted}
 use Rattle.test_report_laws.specs.Run.{Agrees, EarlyEndShows, LastLineAgrees, StrayEndShows, crashed_in, disagreements_in, failed_in, fails_by, has_passed, is_crash, passed_in}
 use Rattle.test_report_run.specs.Others.{OthersView}
-use Rattle.test_report_run.specs.Over.{crash_of, early_disagreements, early_notes, explained_of, failed_note, flaky_note, last_disagreement, last_state, lost, skipped_note}
+use Rattle.test_report_run.specs.Over.{crash_of, crashed_of, early_by, early_disagreements, explained_of, failed_note, flaky_note, last_disagreement, last_state, lost, skipped_note, stopped_note, stopped_of}
 use Rattle.test_report_run.specs.Run.{RunState, counts_tests, ended_at, is_disagreement, open_suite, step, stray_suite_notes}
 use Rattle.test_report_run.specs.Said.{numbers_of}
 use Rattle.test_report_run.specs.Suite.{SuiteState}
@@ -95,29 +96,35 @@ last-agrees s tests some sound =
     )
 
 -- the disagreements of a suite that ends early
-of-early : (others : OthersView) (s : SuiteState) (tests : List RunningView)
-    → disagreements_in (early_notes others s tests) ≡ sum_by weight (early_disagreements s (length tests))
-of-early others s tests = omega (
+of-early : (others : OthersView) (end : Option ProgramEnd) (s : SuiteState) (crashed stopped : List RunningView)
+    → disagreements_in (early_by others end s crashed stopped) ≡ sum_by weight (early_disagreements s end (length crashed))
+of-early others end s crashed stopped = omega (
   arith,
-  ends.of-early-all weight (λ suite n of. refl) others s tests,
-  ends.sum-crashed weight false s (λ c n. refl) (crash_of others s (length tests)) tests,
+  ends.of-early-all weight (λ suite n of. refl) others end s crashed stopped,
+  ends.sum-crashed weight false s (λ c n. refl) (crash_of others end s (length crashed)) crashed,
+  sum-none (λ test. weight (stopped_note s test)) (λ test. refl) stopped,
   sum-none (λ f. weight (flaky_note s false f)) (λ f. refl) s.flaky,
 )
 
-crashes : (others : OthersView) (s : SuiteState) (tests : List RunningView) → crashed_in (early_notes others s tests) ≡ length tests
-crashes others s tests = omega (
+crashes : (others : OthersView) (end : Option ProgramEnd) (s : SuiteState) (crashed stopped : List RunningView)
+    → crashed_in (early_by others end s crashed stopped) ≡ length crashed
+crashes others end s crashed stopped = omega (
   arith,
-  count-of (λ t. fails_by is_crash t.outcome) crashed_weight (λ t. refl) (early_notes others s tests),
-  ends.by-early (of_test crashed_weight) (λ d. refl) (λ suite n of. refl) true others s tests (λ c name. refl) (λ f. refl),
+  count-of (λ t. fails_by is_crash t.outcome) crashed_weight (λ t. refl) (early_by others end s crashed stopped),
+  ends.by-early (of_test crashed_weight) (λ d. refl) (λ suite n of. refl) true others end s crashed stopped (λ c name. refl) (λ name. refl) (λ f. refl),
 )
 
--- no test runs: the end of a suite with a number disagrees, and tests outside of a suite do
-shows : (s : SuiteState) → (s.number ≡ None → 0 < s.started) → sum_by weight (early_disagreements s 0) ≡ 1
-shows s some = grind (arith, nat_tests)
+-- no test crashed: the end of a suite with a number disagrees, and tests outside of a suite do
+shows : (s : SuiteState) (end : Option ProgramEnd) → (s.number ≡ None → 0 < s.started) → sum_by weight (early_disagreements s end 0) ≡ 1
+shows s end some = grind (arith, nat_tests)
+
+by-crashed : (others : OthersView) (end : Option ProgramEnd) (s : SuiteState) (crashed stopped : List RunningView) → (s.number ≡ None → 0 < s.started)
+    → 0 < crashed_in (early_by others end s crashed stopped) + disagreements_in (early_by others end s crashed stopped)
+by-crashed others end s [] stopped some = omega (arith, of-early others end s [] stopped, shows s end some)
+by-crashed others end s (test ∷ crashed) stopped some = omega (arith, crashes others end s (test ∷ crashed) stopped)
 
 pub early-shows : EarlyEndShows
-early-shows others s [] some = omega (arith, of-early others s [], shows s some)
-early-shows others s (test ∷ tests) some = omega (arith, crashes others s (test ∷ tests))
+early-shows others how s tests some = by-crashed others how.end s (crashed_of s how tests) (stopped_of s how tests) some
 
 -- a last line of a suite that is not open
 pub stray-one : (r : RunState) (e : SuiteEndView) (at : Option ℕ) → at ≡ None

@@ -3,13 +3,14 @@ use Rattle.std.proofs.Common.{◌≡◌, ◌∙◌, ℕ, List, ◌+◌, Bool, tr
 use Rattle.std.specs.List.{count_by, fold, sum_by}
 use Rattle.std.specs.Prelude.{if◌then◌else◌, nat_lt}
 use Rattle.run_events_stats.specs.Counters.{with_test}
+use Rattle.run_events_stats.specs.Outcome.{combined}
 use Rattle.run_events_stats.specs.Summary.{failed_tests}
 use Rattle.run_events_stats.specs.declared.stats.RunStats.{RunStats}
 use Rattle.test_report_events.specs.Event.{EventView, TestEndView}
 use Rattle.test_report_events.specs.declared.event.TestResult.{TestResult}
 use Rattle.test_report_events.specs.declared.event.TestResult.TheVariants.{Ok, Failed, Ignored}
 use Rattle.test_report_run_notes.specs.Finish.{finish_for, view_of_finish}
-use Rattle.test_report_run_notes.specs.Note.{Fails, HasTimedOut, IsFlaky, IsSkipped, KindView, NoteView, OutcomeView, Passes, TestIs, TestNoteView}
+use Rattle.test_report_run_notes.specs.Note.{Fails, HasTimedOut, IsFlaky, IsSkipped, IsStopped, KindView, NoteView, OutcomeView, Passes, TestIs, TestNoteView}
 use Rattle.test_report_laws.proofs.Books.{HoldsAll, holds-whole, sums_in, sums_of}
 use Rattle.test_report_laws.proofs.Counters.{early-suite, exactly, fits, fits_kind, last-suite, of_suite, of_test, sum-of, total, with_outcome}
 use Rattle.test_report_laws.proofs.EndSums as ends
@@ -44,6 +45,7 @@ pub passed-counts : (stats : RunStats) (outcome : OutcomeView) (n : ℕ) (slow :
     → (with_outcome stats outcome n slow).passed ≡ stats.passed + passed_weight outcome n slow
 passed-counts stats (Passes output) n slow fit = grind arith
 passed-counts stats (IsSkipped reason) n slow fit = omega arith
+passed-counts stats IsStopped n slow fit = omega arith
 passed-counts stats (Fails f) n slow fit = passed-kind stats f.kind n slow fit
 
 -- `finished_count`
@@ -54,6 +56,7 @@ pub finished-counts : (stats : RunStats) (outcome : OutcomeView) (n : ℕ) (slow
     → (with_outcome stats outcome n slow).finished_count ≡ stats.finished_count + finished_weight outcome n slow
 finished-counts stats (Passes output) n slow fit = refl
 finished-counts stats (IsSkipped reason) n slow fit = omega arith
+finished-counts stats IsStopped n slow fit = omega arith
 finished-counts stats (Fails f) n slow fit = refl
 
 -- `flaky`
@@ -68,6 +71,7 @@ flaky-counts : (stats : RunStats) (outcome : OutcomeView) (n : ℕ) (slow : Bool
     → (with_outcome stats outcome n slow).flaky ≡ stats.flaky + flaky_weight outcome n slow
 flaky-counts stats (Passes output) n slow fit = grind arith
 flaky-counts stats (IsSkipped reason) n slow fit = omega arith
+flaky-counts stats IsStopped n slow fit = omega arith
 flaky-counts stats (Fails f) n slow fit = flaky-kind stats f.kind n slow
 
 -- `passed_slow`
@@ -83,6 +87,7 @@ slow-counts : (stats : RunStats) (outcome : OutcomeView) (n : ℕ) (slow : Bool)
     → (with_outcome stats outcome n slow).passed_slow ≡ stats.passed_slow + slow_weight outcome n slow
 slow-counts stats (Passes output) n slow fit = grind arith
 slow-counts stats (IsSkipped reason) n slow fit = omega arith
+slow-counts stats IsStopped n slow fit = omega arith
 slow-counts stats (Fails f) n slow fit = slow-kind stats f.kind n slow fit
 
 -- `failed_timed_out`
@@ -98,6 +103,7 @@ timed_out-counts : (stats : RunStats) (outcome : OutcomeView) (n : ℕ) (slow : 
     → (with_outcome stats outcome n slow).failed_timed_out ≡ stats.failed_timed_out + timed_out_weight outcome n slow
 timed_out-counts stats (Passes output) n slow fit = refl
 timed_out-counts stats (IsSkipped reason) n slow fit = omega arith
+timed_out-counts stats IsStopped n slow fit = omega arith
 timed_out-counts stats (Fails f) n slow fit = timed_out-kind stats f.kind n slow
 
 -- the three counters of failed tests together
@@ -113,6 +119,7 @@ pub failed-counts : (stats : RunStats) (outcome : OutcomeView) (n : ℕ) (slow :
     → failed_tests (with_outcome stats outcome n slow) ≡ failed_tests stats + failed_weight outcome n slow
 failed-counts stats (Passes output) n slow fit = grind arith
 failed-counts stats (IsSkipped reason) n slow fit = omega arith
+failed-counts stats IsStopped n slow fit = omega arith
 failed-counts stats (Fails f) n slow fit = failed-kind stats f.kind n slow fit
 
 -- the tests that crashed
@@ -137,10 +144,10 @@ crashed-sums = holds-whole {h = λ k. k.crashed} {Fine = λ k. Unit {0}} record 
   empty = refl;
   fine_empty = tt;
   of_end = λ s t order e f. (end-crash s t order e e.result, tt);
-  of_early = λ others s tests f. exactly (omega (
+  of_early = λ others end s crashed stopped f. exactly (omega (
     arith,
-    ends.by-early (of_test crashed_weight) (λ d. refl) (λ suite n of. refl) true others s tests (λ c name. refl) (λ x. refl),
-    early-suite (λ n. n.crashed) others s tests,
+    ends.by-early (of_test crashed_weight) (λ d. refl) (λ suite n of. refl) true others end s crashed stopped (λ c name. refl) (λ name. refl) (λ x. refl),
+    early-suite (λ n. n.crashed) others end s crashed stopped,
   ));
   of_last = λ s e tests f. exactly (omega (
     arith,
@@ -177,9 +184,11 @@ skipped-sums = holds-whole {h = λ k. k.skipped} {Fine = λ k. Unit {0}} record 
   empty = refl;
   fine_empty = tt;
   of_end = λ s t order e f. (end-skip s t order e e.result, tt);
-  of_early = λ others s tests f.
-      let early = ends.by-early (of_test skipped_weight) (λ d. refl) (λ suite n of. refl) false others s tests (λ c name. refl) (λ x. refl) in
-      exactly (omega (arith, early, early-suite (λ n. n.skipped) others s tests));
+  of_early = λ others end s crashed stopped f. exactly (omega (
+    arith,
+    ends.by-early (of_test skipped_weight) (λ d. refl) (λ suite n of. refl) false others end s crashed stopped (λ c name. refl) (λ name. refl) (λ x. refl),
+    early-suite (λ n. n.skipped) others end s crashed stopped,
+  ));
   of_last = λ s e tests f. record {
     low = omega (arith, skipped-last s e tests, last-suite (λ n. n.skipped) s e tests, length-take e.skipped tests);
     high = λ never. absurd (omega arith);
@@ -261,14 +270,19 @@ pub run-sums : (settings : RunSettings) (files : List (List EventView))
     → sums_of (run_after_files (run_start settings) files) ≡ sums_in (all_notes settings files)
 run-sums settings files = (crashed-sums settings files).all_sums
 
-counted-end : (settings : RunSettings) (files : List (List EventView)) (disagree : Bool)
+counted-end : (settings : RunSettings) (files : List (List EventView)) (beyond disagree : Bool)
     → let e = fold with_note no_suites (all_notes settings files) in
-    Counts (all_notes settings files) (if disagree then record e { outcome = outcome.Failed step.Test } else e)
-counted-end settings files true = counted settings files (outcome.Failed step.Test)
-counted-end settings files false = counted settings files (fold with_note no_suites (all_notes settings files)).outcome
+    Counts (all_notes settings files)
+    (if beyond then record e { outcome = outcome.Failed step.Test }
+    else if disagree then record e { outcome = combined e.outcome (outcome.Cancelled step.Test) }
+    else e)
+counted-end settings files true disagree = counted settings files (outcome.Failed step.Test)
+counted-end settings files false true =
+    counted settings files (combined (fold with_note no_suites (all_notes settings files)).outcome (outcome.Cancelled step.Test))
+counted-end settings files false false = counted settings files (fold with_note no_suites (all_notes settings files)).outcome
 
 pub totals-count : TotalsAreCounts
 totals-count settings files =
     let r = run_after_files (run_start settings) files in
-    subst (λ e. Counts (all_notes settings files) (ending e r.disagreements)) (sym (ap (λ s. s.0) (run-sums settings files)))
-    (counted-end settings files (nat_lt 0 r.disagreements))
+    subst (λ e. Counts (all_notes settings files) (ending e r.disagreements r.cancels)) (sym (ap (λ s. s.0) (run-sums settings files)))
+    (counted-end settings files (nat_lt r.cancels r.disagreements) (nat_lt 0 r.disagreements))

@@ -7,7 +7,7 @@ use Rattle.std.proofs.lemmas.List.Elements.{Contains-append_right}
 use Rattle.std.proofs.lemmas.List.Quantifiers.{position-Some}
 use Rattle.std.proofs.lemmas.List.Sums.{sum_by-append}
 use Rattle.std.proofs.lemmas.Slice.Eq.{bytes_eq-Decides}
-use Rattle.test_report_events.specs.Event.{EventView, SuiteEndView, TestEndView, SuiteStarts, SuiteEnds, TestEnds}
+use Rattle.test_report_events.specs.Event.{AllEndEarly, EventView, SuiteEndView, TestEndView, SuiteStarts, SuiteEnds, TestEnds}
 use Rattle.test_report_events.specs.declared.event.TestResult.{TestResult}
 use Rattle.test_report_events.specs.declared.event.TestResult.TheVariants.{Ok, Failed, Ignored}
 use Rattle.test_report_run_notes.specs.Note.{Disagrees, Fails, NoteView, StrayEnds, StraySuiteEnds, TestIs, TestNoteView}
@@ -18,8 +18,8 @@ use Rattle.test_report_laws.proofs.Sums.{sum-if-none}
 use Rattle.test_report_run.specs.Ended.{end_notes, failure_of}
 use Rattle.test_report_laws.specs.Run.{FailureIsTold, NoFailureOfFileEnd, OneFailureOfLine, TellsFailure, is_failure, is_told_failure, says_failed}
 use Rattle.test_report_run.specs.Others.{OthersView}
-use Rattle.test_report_run.specs.Over.{early_notes, explained_of}
-use Rattle.test_report_run.specs.Run.{RunState, Step, counts_tests, ended_at, ended_early, tests_in, open_suite, opened, running_ends, running_over, settled_at, started_again, step, stray_ends, stray_over, stray_suite_notes, stray_test, suite_at, suite_place}
+use Rattle.test_report_run.specs.Over.{EarlyEnd, crashed_of, early_notes, explained_of, nothing_known, stopped_of}
+use Rattle.test_report_run.specs.Run.{RunState, Step, all_ended_early, counts_tests, early_end, ended_at, ended_early, tests_in, open_suite, opened, running_ends, running_over, settled_at, started_again, step, stray_ends, stray_over, stray_suite_notes, stray_test, suite_at, suite_place}
 use Rattle.test_report_run.specs.Run as run
 use Rattle.test_report_run.specs.Running.{RunningView, attempts_of, ends_in_number, has_name, is_same, no_test, place_by_attempts, place_of_end, running_at, split_at, without_number}
 use Rattle.test_report_run.specs.Suite.{OverView, SuiteState, cancelled_by, named, outside_start, suite_name, with_line}
@@ -32,9 +32,14 @@ abbrev weight : NoteView → ℕ
 weight note = cond (is_told_failure note) 1 0
 
 -- the end of a suite tells of none
-none-early : (others : OthersView) (s : SuiteState) (tests : List RunningView) → told (early_notes others s tests) ≡ 0
-none-early others s tests =
-    omega (arith, by-early weight (λ d. refl) (λ suite n of. refl) false others s tests (λ c name. refl) (λ f. refl))
+none-early : (others : OthersView) (how : EarlyEnd) (s : SuiteState) (tests : List RunningView) → told (early_notes others how s tests) ≡ 0
+none-early others how s tests =
+    let crashed = crashed_of s how tests in
+    let stopped = stopped_of s how tests in
+    omega (
+      arith,
+      by-early weight (λ d. refl) (λ suite n of. refl) false others how.end s crashed stopped (λ c name. refl) (λ name. refl) (λ f. refl),
+    )
 
 none-last : (s : SuiteState) (e : Explanation) (tests : List RunningView) → told (last_by s e tests) ≡ 0
 none-last s e tests = omega (
@@ -46,7 +51,7 @@ none-last s e tests = omega (
 none-again : (r : RunState) (key : Option (List ℕ)) (count : Option ℕ) (at : Option ℕ)
     → told (option_map_or (started_again r key count) at (step (opened r key count) [])).notes ≡ 0
 none-again r key count None = refl
-none-again r None count (Some at) = none-early r.others (cancelled_by r.cancel (suite_at r (Some at))) (tests_in r (suite_at r (Some at)))
+none-again r None count (Some at) = none-early r.others nothing_known (cancelled_by r.cancel (suite_at r (Some at))) (tests_in r (suite_at r (Some at)))
 none-again r (Some key) count (Some at) = refl
 
 none-ended : (r : RunState) (e : SuiteEndView) (at : Option ℕ) → told (option_map_or (ended_at r e) at (step r (stray_suite_notes e))).notes ≡ 0
@@ -82,10 +87,26 @@ one-ended r e (Some p) =
     let test = running_at r.running p.0 in
     one-end (suite_at r (position (λ s. is_same s.number test.suite) r.suites)) (running_over r e test p.1) e e.result
 
+-- the early end of all that is open tells of none
+none-early-all : (how : EarlyEnd) (t : Step) (suites : List SuiteState) → told t.notes ≡ 0 → told (fold (ended_early how) t suites).notes ≡ 0
+none-early-all how t [] h = h
+none-early-all how t (s ∷ suites) h =
+    let tests = tests_in t.run s in
+    let own = cancelled_by t.run.cancel s in
+    none-early-all how (ended_early how t s) suites
+    (omega (arith, h, sum_by-append weight t.notes (early_notes t.run.others how own tests), none-early t.run.others how own tests))
+
+none-all : (how : EarlyEnd) (r : RunState) → told (all_ended_early how r).notes ≡ 0
+none-all how r =
+    let none = step (record r { suites = [] }) [] in
+    let suites = fold (ended_early how) none r.suites in
+    none-early-all how (step (record (suites.run) { outside = outside_start }) suites.notes) (r.outside ∷ []) (none-early-all how none r.suites refl)
+
 one-told : (r : RunState) (e : EventView) → told (run.told r e).notes ≡ (if says_failed e then 1 else 0)
 one-told r (SuiteStarts key count) = none-again r key count (open_suite r key)
 one-told r (SuiteEnds e) = none-ended r e (open_suite r e.key)
 one-told r (TestEnds e) = one-ended r e (place_of_end r.running e.name)
+one-told r (AllEndEarly end) = none-all (early_end r end) r
 one-told r e = refl
 
 pub one-failure : OneFailureOfLine
@@ -99,22 +120,9 @@ one-failure r e =
       sum_by-append weight before own,
     )
 
--- the end of a file tells of none
-none-early-all : (t : Step) (suites : List SuiteState) → told t.notes ≡ 0 → told (fold ended_early t suites).notes ≡ 0
-none-early-all t [] h = h
-none-early-all t (s ∷ suites) h =
-    let tests = tests_in t.run s in
-    let own = cancelled_by t.run.cancel s in
-    none-early-all (ended_early t s) suites
-    (omega (arith, h, sum_by-append weight t.notes (early_notes t.run.others own tests), none-early t.run.others own tests))
-
+-- and so does the end of a file
 pub no-failure : NoFailureOfFileEnd
-no-failure r =
-    let now = reported_run r in
-    let none = step (record now { suites = [] }) [] in
-    let suites = fold ended_early none now.suites in
-    suites-alone weight (λ d. refl) r
-    ∙ none-early-all (step (record (suites.run) { outside = outside_start }) suites.notes) (now.outside ∷ []) (none-early-all none now.suites refl)
+no-failure r = suites-alone weight (λ d. refl) r ∙ none-all nothing_known (reported_run r)
 
 -- a failed test has what its line says
 abbrev note_of : SuiteState → OverView → TestEndView → TestNoteView

@@ -6,7 +6,7 @@ use Rattle.std.specs.Prelude.{◌==◌, ◌||◌, if◌then◌else◌}
 use Rattle.std.proofs.lemmas.Bool.{cases_lt}
 use Rattle.std.proofs.lemmas.List.Elements.{All-get_or}
 use Rattle.std.proofs.lemmas.List.Sums.{count_by-le-length, get_or-le-sum_by, sum_by-append, sum_by-cons, sum_by-le-sum_by, sum_by-remove, sum_by-set, sum_by_push}
-use Rattle.test_report_events.specs.Event.{EventView, SuiteEndView, SuiteStarts, SuiteEnds}
+use Rattle.test_report_events.specs.Event.{AllEndEarly, EventView, SuiteEndView, SuiteStarts, SuiteEnds}
 use Rattle.test_report_run_notes.specs.Note.{Fails, NoteView, OutcomeView, TestIs, failed_of}
 use Rattle.test_report_laws.proofs.Books.{Holds, IsIn, holds-settled, holds-whole, position-in, with-books}
 use Rattle.test_report_laws.proofs.CargoReports.{known-at, only-told, ready}
@@ -19,10 +19,10 @@ use Rattle.test_report_laws.proofs.Sums.{one-most}
 use Rattle.test_report_laws.proofs.Weights.{Keeps, has-number, keeps-line, numbered-end, numbered-line, numbered-ready, numbered-reported, ready-suites, unnumbered, weigh, weight_of}
 use Rattle.test_report_laws.specs.Run.{FailedVerdictShows, IsClean, IsSound, crashed_in, disagreements_in, failed_in, failed_verdicts_of, fails_by, is_crash, is_test, says_failed_verdict}
 use Rattle.test_report_run.specs.Others.{OthersView}
-use Rattle.test_report_run.specs.Over.{early_notes, last_notes}
+use Rattle.test_report_run.specs.Over.{EarlyEnd, early_notes, last_notes, nothing_known}
 use Rattle.test_report_run.specs.Running.{RunningView}
 use Rattle.test_report_run.specs.FileEnd.{after_file, file_notes}
-use Rattle.test_report_run.specs.Run.{RunSettings, RunState, Step, after, ended_at, ended_early, has_failed, heard, is_cause, learned, notes_at, open_suite, opened, settled_at, started_again, step, stray_suite_notes, suite_at, tests_in, with_suite_at, without_tests}
+use Rattle.test_report_run.specs.Run.{RunSettings, RunState, Step, after, all_ended_early, early_end, ended_at, ended_early, has_failed, heard, is_cause, learned, notes_at, open_suite, opened, settled_at, started_again, step, stray_suite_notes, suite_at, tests_in, with_suite_at, without_tests}
 use Rattle.test_report_run.specs.Said.{no_lines}
 use Rattle.test_report_run.specs.Suite.{SuiteState, cancelled_by, has_key, joined_by, outside_start, suite_start, with_line}
 use Rattle.test_report_laws.specs.Whole.{all_notes}
@@ -55,10 +55,10 @@ crashes-fail notes =
     each (TestIs t) = crash-fails t.outcome
     each note = omega arith
 
-pub early-cause : (others : OthersView) (s : SuiteState) (tests : List RunningView) → s.number ≢ None → 0 < count_by is_cause (early_notes others s tests)
-early-cause others s tests some =
-    let notes = early_notes others s tests in
-    omega (arith, early-shows others s tests (λ zero. absurd (some zero)), causes-of notes, crashes-fail notes)
+pub early-cause : (others : OthersView) (how : EarlyEnd) (s : SuiteState) (tests : List RunningView) → (s.number ≡ None → 0 < s.started)
+    → 0 < count_by is_cause (early_notes others how s tests)
+early-cause others how s tests some =
+    let notes = early_notes others how s tests in omega (arith, early-shows others how s tests some, causes-of notes, crashes-fail notes)
 
 -- and so does one with a failed verdict that ends by its last line, unless a test of it failed before
 last-cause : (s : SuiteState) (tests : List RunningView) (known : ℕ) → s.number ≢ None → IsSound s → failed_of s.stats ≤ known → s.said.failed_verdict ≡ true
@@ -84,7 +84,11 @@ seen-first n notes r None count (Some at) numbered i in' some =
     let s = suite_at r (Some at) in
     let tests = tests_in r s in
     let own = cancelled_by r.cancel s in
-    omega (arith, early-cause r.others own tests (has-number r at numbered in'), sum_by-append weight notes (early_notes r.others own tests))
+    omega (
+      arith,
+      early-cause r.others nothing_known own tests (λ zero. absurd (has-number r at numbered in' zero)),
+      sum_by-append weight notes (early_notes r.others nothing_known own tests),
+    )
 
 -- a last line of a suite
 still-shown : (n known left rest more : ℕ) (old e : Bool) → (0 < n → 0 < known + left) → rest + cond old 1 0 ≡ left
@@ -153,6 +157,48 @@ seen-last n notes r e (Some at) is holds numbered i some =
     let in' = position-in (has_key e.key) r.suites (Some at) is in
     seen-over n notes r e at ((with_line (suite_at r (Some at)) e).open_lines == 0) holds numbered i in' some
 
+-- all that is open ends early: each suite makes a cause known
+early-causes : (how : EarlyEnd) (t : Step) (suites : List SuiteState) → sum_by (weigh unnumbered) suites ≡ 0
+    → count_by is_cause t.notes + length suites ≤ count_by is_cause (fold (ended_early how) t suites).notes
+early-causes how t [] none = omega arith
+early-causes how t (s ∷ suites) none =
+    let tests = tests_in t.run s in
+    let own = cancelled_by t.run.cancel s in
+    let parts = sum_by-cons (weigh unnumbered) s suites in
+    omega (
+      arith,
+      early-cause t.run.others how own tests (λ zero. absurd (omega (arith, ap (λ n. unnumbered n no_lines None) zero))),
+      sum_by-append weight t.notes (early_notes t.run.others how own tests),
+      early-causes how (ended_early how t s) suites (omega arith),
+    )
+
+pub all-causes : (how : EarlyEnd) (r : RunState) → weight_of unnumbered r ≡ 0 → length r.suites ≤ count_by is_cause (all_ended_early how r).notes
+all-causes how r numbered =
+    let none = step (record r { suites = [] }) [] in
+    let ended = fold (ended_early how) none r.suites in
+    let tests = tests_in (record (ended.run) { outside = outside_start }) r.outside in
+    let last = early_notes ended.run.others how (cancelled_by ended.run.cancel r.outside) tests in
+    omega (arith, early-causes how none r.suites numbered, sum_by-append weight ended.notes last)
+
+-- tests that started outside of a suite make a cause known, too
+pub outside-shows : (how : EarlyEnd) (r : RunState) → 0 < r.outside.started → 0 < count_by is_cause (all_ended_early how r).notes
+outside-shows how r some =
+    let ended = fold (ended_early how) (step (record r { suites = [] }) []) r.suites in
+    let tests = tests_in (record (ended.run) { outside = outside_start }) r.outside in
+    let own = cancelled_by ended.run.cancel r.outside in
+    let last = early_notes ended.run.others how own tests in
+    omega (arith, early-cause ended.run.others how own tests (λ zero. some), sum_by-append weight ended.notes last)
+
+seen-all : (n : ℕ) (notes : List NoteView) (r : RunState) (how : EarlyEnd) → weight_of unnumbered r ≡ 0 → Seen n notes r
+    → let t = all_ended_early how r in Seen (n + 0) (notes ++ t.notes) (learned t.run t.notes)
+seen-all n notes r how numbered i some = omega (
+  arith,
+  i (omega arith),
+  all-causes how r numbered,
+  count_by-le-length (λ s. s.said.failed_verdict) r.suites,
+  sum_by-append weight notes (all_ended_early how r).notes,
+)
+
 -- a line
 seen-line : (n : ℕ) (notes : List NoteView) (r : RunState) (e : EventView) → Holds failed-rules notes r → weight_of unnumbered r ≡ 0 → Seen n notes r
     → Seen (n + verdict e) (notes ++ notes_at r e) (after r e)
@@ -168,54 +214,22 @@ seen-line n notes r (SuiteEnds e) holds numbered i =
     known-at (λ known. Seen (n + verdict line) known (after r line)) notes r line
     (seen-last n (notes ++ (settled_at r line).notes) now e (open_suite now e.key) refl (known-ready notes r line holds) (numbered-ready r line numbered)
     (seen-ready n notes r line i))
+seen-line n notes r (AllEndEarly end) holds numbered i = seen-all n notes r (early_end r end) numbered i
 seen-line n notes r e holds numbered i = seen-kept n notes r e refl (keeps-line r e refl) i
-
--- the end of a file
-early-causes : (t : Step) (suites : List SuiteState) → sum_by (weigh unnumbered) suites ≡ 0
-    → count_by is_cause t.notes + length suites ≤ count_by is_cause (fold ended_early t suites).notes
-early-causes t [] none = omega arith
-early-causes t (s ∷ suites) none =
-    let tests = tests_in t.run s in
-    let parts = sum_by-cons (weigh unnumbered) s suites in
-    omega (
-      arith,
-      early-cause t.run.others (cancelled_by t.run.cancel s) tests (λ zero. absurd (omega (arith, ap (λ n. unnumbered n no_lines None) zero))),
-      sum_by-append weight t.notes (early_notes t.run.others (cancelled_by t.run.cancel s) tests),
-      early-causes (ended_early t s) suites (omega arith),
-    )
 
 -- and so do all that are open at the end of a file
 pub end-causes : (r : RunState) → weight_of unnumbered r ≡ 0 → length r.suites ≤ count_by is_cause (file_notes r)
-end-causes r numbered =
-    let now = reported_run r in
-    let none = step (record now { suites = [] }) [] in
-    let ended = fold ended_early none now.suites in
-    let tests = tests_in (record (ended.run) { outside = outside_start }) now.outside in
-    let last = early_notes ended.run.others (cancelled_by ended.run.cancel now.outside) tests in
-    omega (
-      arith,
-      early-causes none now.suites (numbered-reported r numbered),
-      ap (λ (x : RunState). length x.suites) (only-told r).run_is,
-      sum_by-append weight ended.notes last,
-      end-parts weight r,
-    )
+end-causes r numbered = omega (
+  arith,
+  all-causes nothing_known (reported_run r) (numbered-reported r numbered),
+  ap (λ (x : RunState). length x.suites) (only-told r).run_is,
+  end-parts weight r,
+)
 
--- tests that started outside of a suite make a cause known, too
 pub outside-cause : (r : RunState) → 0 < r.outside.started → 0 < count_by is_cause (file_notes r)
 outside-cause r some =
-    let now = reported_run r in
-    let ended = fold ended_early (step (record now { suites = [] }) []) now.suites in
-    let tests = tests_in (record (ended.run) { outside = outside_start }) now.outside in
-    let last = early_notes ended.run.others (cancelled_by ended.run.cancel now.outside) tests in
-    let started : 0 < now.outside.started = subst (λ (x : RunState). 0 < x.outside.started) (sym (only-told r).run_is) some in
-    omega (
-      arith,
-      early-shows ended.run.others (cancelled_by ended.run.cancel now.outside) tests (λ zero. started),
-      causes-of last,
-      crashes-fail last,
-      sum_by-append weight ended.notes last,
-      end-parts weight r,
-    )
+    let started : 0 < (reported_run r).outside.started = subst (λ (x : RunState). 0 < x.outside.started) (sym (only-told r).run_is) some in
+    omega (arith, outside-shows nothing_known (reported_run r) started, end-parts weight r)
 
 seen-end : (n : ℕ) (notes : List NoteView) (r : RunState) → weight_of unnumbered r ≡ 0 → Seen n notes r → Seen n (notes ++ file_notes r) (after_file r)
 seen-end n notes r numbered i some = omega (

@@ -4,17 +4,17 @@ use Rattle.std.specs.List.{position, remove, sum_by}
 use Rattle.std.specs.Option.{option_map_or}
 use Rattle.std.specs.Prelude.{◌==◌, if◌then◌else◌, is_none}
 use Rattle.std.proofs.lemmas.List.Sums.{get_or-le-sum_by, sum_by-remove, sum_by-set, sum_by_push}
-use Rattle.test_report_events.specs.Event.{EventView, SuiteEndView, TestEndView, SuiteStarts, SuiteEnds, TestStarts, TestEnds, TestIsSlow, OtherLine, HeadingLine, CargoFails, Prints, DamagedLine, CommandStarts, Cancels, CommandOver}
+use Rattle.test_report_events.specs.Event.{EventView, SuiteEndView, TestEndView, SuiteStarts, SuiteEnds, TestStarts, TestEnds, TestIsSlow, OtherLine, HeadingLine, CargoFails, Prints, DamagedLine, CommandStarts, Cancels, CommandOver, AllEndEarly, ProgramDisagrees}
 use Rattle.test_report_events.specs.declared.event.TestResult.{TestResult}
 use Rattle.test_report_events.specs.declared.event.TestResult.TheVariants.{Ok, Failed, Ignored}
-use Rattle.test_report_laws.proofs.Books.{IsIn, ends-keep, place-in, position-in}
+use Rattle.test_report_laws.proofs.Books.{IsIn, none-left, place-in, position-in}
 use Rattle.test_report_laws.proofs.CargoReports.{only-cargo, only-settled_at, only-told, ready}
 use Rattle.test_report_laws.proofs.FileEnds.{reported_run}
 use Rattle.test_report_laws.proofs.OverRuns.{up-to-line}
 use Rattle.test_report_run.specs.Ended.{after_end}
-use Rattle.test_report_run.specs.Over.{last_notes}
+use Rattle.test_report_run.specs.Over.{last_notes, nothing_known}
 use Rattle.test_report_run.specs.FileEnd.{after_file}
-use Rattle.test_report_run.specs.Run.{RunSettings, RunState, after, ended_at, heard, heard_at, open_suite, opened, place_of_number, run_start, running_ends, running_over, slow_at, started_again, step, stray_ends, stray_over, stray_suite_notes, suite_at, suite_place, tests_in, told, with_suite_at, without_tests}
+use Rattle.test_report_run.specs.Run.{RunSettings, RunState, after, early_end, ended_at, heard, heard_at, open_suite, opened, place_of_number, run_start, running_ends, running_over, slow_at, started_again, step, stray_ends, stray_over, stray_suite_notes, suite_at, suite_place, tests_in, told, with_suite_at, without_tests}
 use Rattle.test_report_run.specs.Running.{RunningView, is_same, place_of_end, running_at, with_slow}
 use Rattle.test_report_run.specs.Said.{no_lines}
 use Rattle.test_report_run.specs.Suite.{OverView, SuiteState, cancelled_by, has_key, joined_by, named, suite_start, with_line, with_start}
@@ -76,7 +76,7 @@ keeps-slow r (Some p) =
     let at = place_of_number r (running_at r.running p.0).suite in
     slow-kept r (with_slow r.running p.0) at (position-in (λ s. is_same s.number (running_at r.running p.0).suite) r.suites at refl)
 
--- the line is the first or a last one of a suite
+-- the line is the first or a last one of a suite, or suites end early
 abbrev pub is_of_suite : EventView → Bool
 is_of_suite (SuiteStarts key count) = true
 is_of_suite (SuiteEnds e) = true
@@ -91,6 +91,8 @@ is_of_suite (DamagedLine text) = false
 is_of_suite (CommandStarts names) = false
 is_of_suite (Cancels why) = false
 is_of_suite (CommandOver end) = false
+is_of_suite (AllEndEarly end) = true
+is_of_suite (ProgramDisagrees fault) = false
 
 -- failures of cargo that become known change no suite
 pub ready-suites : (r : RunState) (e : EventView) → (ready r e).suites ≡ r.suites
@@ -112,6 +114,8 @@ keeps-told r (DamagedLine text) other = λ g. refl
 keeps-told r (CommandStarts names) other = λ g. refl
 keeps-told r (Cancels why) other = λ g. refl
 keeps-told r (CommandOver end) other = λ g. refl
+keeps-told r (AllEndEarly end) never = absurd (cc)
+keeps-told r (ProgramDisagrees fault) other = λ g. refl
 
 -- what a line leaves of the suites, its own notes leave
 pub after-suites : (r : RunState) (e : EventView) → (after r e).suites ≡ (told (ready r e) e).run.suites
@@ -171,6 +175,7 @@ numbered-told r (SuiteStarts key count) none =
     numbered-first r key count (open_suite r key) (position-in (has_key key) r.suites (open_suite r key) refl) none
 numbered-told r (SuiteEnds e) none =
     numbered-last r e (open_suite r e.key) (position-in (has_key e.key) r.suites (open_suite r e.key) refl) none
+numbered-told r (AllEndEarly end) none = ap (λ (suites : List SuiteState). sum_by (weigh unnumbered) suites) (none-left (early_end r end) r)
 numbered-told r e none = keeps-told r e refl unnumbered ∙ none
 
 pub numbered-line : (r : RunState) (e : EventView) → weight_of unnumbered r ≡ 0 → weight_of unnumbered (after r e) ≡ 0
@@ -181,7 +186,7 @@ pub numbered-reported : (r : RunState) → weight_of unnumbered r ≡ 0 → weig
 numbered-reported r none = ap (weight_of unnumbered) (only-told r).run_is ∙ none
 
 pub none-open : (r : RunState) → (after_file r).suites ≡ []
-none-open r = (ends-keep (step (record (reported_run r) { suites = [] }) []) (reported_run r).suites).0
+none-open r = none-left nothing_known (reported_run r)
 
 pub numbered-end : (r : RunState) → weight_of unnumbered (after_file r) ≡ 0
 numbered-end r = ap (λ (suites : List SuiteState). sum_by (weigh unnumbered) suites) (none-open r)

@@ -1,3 +1,4 @@
+pub mod Programs
 pub mod Run
 pub mod Status
 pub mod Whole

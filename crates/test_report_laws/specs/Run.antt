@@ -3,17 +3,17 @@ use Rattle.std.specs.Prelude.{◌++◌, ◌≡◌, ◌≢◌, All, IfSome, None,
 use Rattle.std.specs.List.{count_by, sum_by}
 use Rattle.run_events_stats.specs.declared.outcome.run_outcome.RunOutcome.{RunOutcome}
 use Rattle.run_events_stats.specs.declared.outcome.run_outcome.RunOutcome.TheVariants as outcome
-use Rattle.test_report_events.specs.Event.{EventView, SuiteEndView, TestEndView, SuiteStarts, SuiteEnds, TestStarts, TestEnds, TestIsSlow, OtherLine, HeadingLine, CargoFails, Prints, DamagedLine, CommandStarts, Cancels, CommandOver, CommandView, WithStatus}
+use Rattle.test_report_events.specs.Event.{EventView, SuiteEndView, TestEndView, SuiteStarts, SuiteEnds, TestStarts, TestEnds, TestIsSlow, OtherLine, HeadingLine, CargoFails, Prints, DamagedLine, CommandStarts, Cancels, CommandOver, AllEndEarly, ProgramDisagrees, CommandView, WithStatus}
 use Rattle.test_report_events.specs.declared.event.CargoFailure.{CargoFailure}
 use Rattle.test_report_events.specs.declared.event.TestResult.{TestResult}
 use Rattle.test_report_events.specs.declared.event.TestResult.TheVariants.{Ok, Failed, Ignored}
-use Rattle.test_report_run_notes.specs.Note.{Disagrees, Fails, FlakyEnds, HasCrashed, HasFailed, HasNoEnd, HasTimedOut, IsFlaky, IsNotRun, IsSkipped, KindView, NoteView, OutcomeView, Passes, SuiteIs, SuiteNoteView, TestIs, TestNoteView, failed_of}
+use Rattle.test_report_run_notes.specs.Note.{Disagrees, Fails, FlakyEnds, HasCrashed, HasFailed, HasNoEnd, HasTimedOut, IsFlaky, IsNotRun, IsSkipped, IsStopped, KindView, NoteView, OutcomeView, Passes, SuiteIs, SuiteNoteView, TestIs, TestNoteView, failed_of}
 use Rattle.test_report_run_notes.specs.declared.note.RunEnd.{RunEnd}
 use Rattle.test_report_run_notes.specs.declared.note.SaidNumbers.{SaidNumbers}
 use Rattle.test_report_run.specs.Events.{is_event}
 use Rattle.test_report_run.specs.Ended.{failure_of}
 use Rattle.test_report_run.specs.Others.{OthersView}
-use Rattle.test_report_run.specs.Over.{early_notes, last_notes}
+use Rattle.test_report_run.specs.Over.{EarlyEnd, early_notes, last_notes}
 use Rattle.test_report_run.specs.FileEnd.{file_notes}
 use Rattle.test_report_run.specs.Run.{RunSettings, RunState, counts_tests, has_failed, is_disagreement, notes_at, open_suite, run_start, told}
 use Rattle.test_report_run.specs.Running.{RunningView, ends_in_number, without_number}
@@ -44,6 +44,8 @@ says_failed (DamagedLine text) = false
 says_failed (CommandStarts names) = false
 says_failed (Cancels why) = false
 says_failed (CommandOver end) = false
+says_failed (AllEndEarly end) = false
+says_failed (ProgramDisagrees fault) = false
 
 -- a failure of this kind has a line that says so
 abbrev pub is_told : KindView → Bool
@@ -57,6 +59,7 @@ is_told (HasCrashed crash) = false
 abbrev pub fails_as_told : OutcomeView → Bool
 fails_as_told (Passes output) = false
 fails_as_told (IsSkipped reason) = false
+fails_as_told IsStopped = false
 fails_as_told (Fails failure) = is_told failure.kind
 
 -- the note is of a failed test whose line says that it failed
@@ -104,12 +107,14 @@ is_test rule (SuiteIs s) = false
 abbrev pub has_passed : OutcomeView → Bool
 has_passed (Passes output) = true
 has_passed (IsSkipped reason) = false
+has_passed IsStopped = false
 has_passed (Fails failure) = false
 
 -- the test was skipped
 abbrev pub was_skipped : OutcomeView → Bool
 was_skipped (Passes output) = false
 was_skipped (IsSkipped reason) = true
+was_skipped IsStopped = false
 was_skipped (Fails failure) = false
 
 -- the failure is of a test that ran out of time
@@ -132,6 +137,7 @@ is_crash (HasCrashed crash) = true
 abbrev pub fails_by : (KindView → Bool) → OutcomeView → Bool
 fails_by rule (Passes output) = false
 fails_by rule (IsSkipped reason) = false
+fails_by rule IsStopped = false
 fails_by rule (Fails failure) = rule failure.kind
 
 -- how many tests passed
@@ -236,8 +242,8 @@ LastLineAgrees = (s : SuiteState) → (tests : List RunningView) → s.number �
 
 -- A suite that ends early makes a crashed test or a disagreement known, and so does a file with tests outside of a suite.
 abbrev pub EarlyEndShows : Type 0
-EarlyEndShows = (others : OthersView) → (s : SuiteState) → (tests : List RunningView) → (s.number ≡ None → 0 < s.started)
-    → 0 < crashed_in (early_notes others s tests) + disagreements_in (early_notes others s tests)
+EarlyEndShows = (others : OthersView) → (how : EarlyEnd) → (s : SuiteState) → (tests : List RunningView) → (s.number ≡ None → 0 < s.started)
+    → 0 < crashed_in (early_notes others how s tests) + disagreements_in (early_notes others how s tests)
 
 -- A last line of a suite that is not open makes by itself a disagreement known if and only if it has a failed verdict or counts tests that ran.
 abbrev pub StrayEndShows : Type 0
@@ -290,6 +296,8 @@ says_failed_verdict (DamagedLine text) = false
 says_failed_verdict (CommandStarts names) = false
 says_failed_verdict (Cancels why) = false
 says_failed_verdict (CommandOver end) = false
+says_failed_verdict (AllEndEarly end) = false
+says_failed_verdict (ProgramDisagrees fault) = false
 
 -- how many last lines of suites in a file have a failed verdict
 abbrev pub failed_verdicts_in : List EventView → ℕ
@@ -319,6 +327,8 @@ is_damaged (Prints line plain) = false
 is_damaged (CommandStarts names) = false
 is_damaged (Cancels why) = false
 is_damaged (CommandOver end) = false
+is_damaged (AllEndEarly end) = false
+is_damaged (ProgramDisagrees fault) = false
 
 -- how many lines of a file are damaged, and say that a test or a suite failed
 abbrev pub damaged_lines_in : List EventView → ℕ

@@ -1,11 +1,11 @@
 -- What the outcome of a whole run says of its lines: what a run that succeeds has no line of, and why another one does not.
-use Rattle.std.specs.Prelude.{◌+◌, [], ◌≡◌, ◌≢◌, ◌≤◌, ◌<◌, ◌⊎◌, ◌||◌, ℕ, Bool, true, false, Contains, IfSome, IsTrue, List, None, Option, Some, length}
+use Rattle.std.specs.Prelude.{◌+◌, [], ◌≡◌, ◌≢◌, ◌≤◌, ◌<◌, ◌⊎◌, ◌||◌, ◌&&◌, ℕ, Bool, true, false, Contains, IfSome, IsTrue, List, None, Option, Some, if◌then◌else◌, is_none, length}
 use Rattle.std.specs.List.{sum_by}
 use Rattle.std.specs.Option.{option_map_or}
 use Rattle.run_events_stats.specs.declared.outcome.run_outcome.RunOutcome.TheVariants as outcome
-use Rattle.test_report_events.specs.Event.{EventView, SuiteEndView, SuiteStarts, SuiteEnds, TestStarts, TestEnds, TestIsSlow, OtherLine, HeadingLine, CargoFails, Prints, DamagedLine, CommandStarts, Cancels, CommandOver, WithStatus}
+use Rattle.test_report_events.specs.Event.{EarlyEndView, EventView, SuiteEndView, SuiteStarts, SuiteEnds, TestStarts, TestEnds, TestIsSlow, OtherLine, HeadingLine, CargoFails, Prints, DamagedLine, CommandStarts, Cancels, CommandOver, AllEndEarly, ProgramDisagrees, WithStatus}
 use Rattle.test_report_events.specs.declared.event.CargoFailure.{CargoFailure}
-use Rattle.test_report_run_notes.specs.Note.{Disagrees, FlakyEnds, IsNotRun, NoteView, SuiteIs, TestIs}
+use Rattle.test_report_run_notes.specs.Note.{Disagrees, Fails, FlakyEnds, IsNotRun, IsSkipped, IsStopped, NoteView, OutcomeView, Passes, SuiteIs, TestIs, TestNoteView}
 use Rattle.test_report_run_notes.specs.declared.note.RunEnd.{RunEnd}
 use Rattle.test_report_laws.specs.Run.{Agrees, IsClean, damaged_lines_of, events_in, failed_lines_of, failed_verdicts_of, not_run_in, passed_in, skipped_in}
 use Rattle.test_report_run.specs.Running.{RunningView}
@@ -25,15 +25,26 @@ RanNoTests end = end.outcome ≡ outcome.NoTestsRun
 
 -- Why a run does not succeed.
 
--- how many tests of a suite were not run, by the note that names the suite
+-- the test was stopped
+abbrev pub was_stopped : OutcomeView → Bool
+was_stopped (Passes output) = false
+was_stopped (IsSkipped reason) = false
+was_stopped IsStopped = true
+was_stopped (Fails failure) = false
+
+-- the test was stopped, and is of no suite
+abbrev pub is_stopped_outside : TestNoteView → Bool
+is_stopped_outside t = was_stopped t.outcome && is_none t.suite
+
+-- how many tests of a suite were not run, by the note that names the suite. A test of no suite that was stopped has a note that names it
 abbrev pub named_not_run : NoteView → ℕ
-named_not_run (TestIs t) = 0
+named_not_run (TestIs t) = if is_stopped_outside t then 1 else 0
 named_not_run (FlakyEnds t) = 0
 named_not_run (Disagrees d) = 0
 named_not_run (IsNotRun suite n of) = n
 named_not_run (SuiteIs s) = 0
 
--- Each test that was not run is in a note that names its suite.
+-- Each test that was not run is in a note that names its suite, or, if it is of no suite, in a note that names the test.
 abbrev pub NotRunIsNamed : Type 0
 NotRunIsNamed = (settings : RunSettings) → (files : List (List EventView))
     → sum_by named_not_run (all_notes settings files) ≡ not_run_in (all_notes settings files)
@@ -73,6 +84,8 @@ announced_by (DamagedLine text) = 0
 announced_by (CommandStarts names) = 0
 announced_by (Cancels why) = 0
 announced_by (CommandOver end) = 0
+announced_by (AllEndEarly end) = 0
+announced_by (ProgramDisagrees fault) = 0
 
 -- how many tests the first lines of suites announce in all files
 abbrev pub announced_of : List (List EventView) → ℕ
@@ -112,6 +125,8 @@ pub record IsInOrder (settings : RunSettings) (files : List (List EventView)) : 
   pub none_open : (r : RunState) → IsFileEndOf settings files r → r.suites ≡ []
   -- no test starts outside of a suite
   pub none_outside : (r : RunState) → IsFileEndOf settings files r → r.outside.started ≡ 0
+  -- no suite is open, and no test has started outside of a suite, where a line says that all that is open ends early
+  pub none_early : (r : RunState) → (end : EarlyEndView) → IsLineOf settings files r (AllEndEarly end) → (r.suites ≡ []) × (r.outside.started ≡ 0)
   -- at least as many tests finished or were skipped as were announced
   pub announced : announced_of files ≤ (whole_end settings files).stats.finished_count + (whole_end settings files).skipped
   -- a failure of cargo is read only while a suite is open, when it is a print of a test, or in the output of a command

@@ -1,5 +1,5 @@
-//! Laws of a test run: facts that follow from the contracts of `test_report_run`. They say what a success and a failure
-//! mean, and that no failed test and no contradiction is hidden.
+//! Laws of a test run: facts that follow from the contracts of `test_report_run` and `test_report_programs`. They say
+//! what a success and a failure mean, and that no failed test, no failed program and no contradiction is hidden.
 //!
 //! A law is a function that does nothing. Its contract is the fact. A function whose proof needs the fact
 //! calls the law. This is the end of such a function, `succeeds_in_order` in `CALLING.md`. Its clause says
@@ -23,4 +23,5 @@
 //! ```
 #![tactic(auto)]
 
+pub mod programs;
 pub mod run;

@@ -6,6 +6,7 @@ mod of_report_text;
 mod of_template;
 mod of_test_report_events;
 mod of_test_report_laws;
+mod of_test_report_programs;
 mod of_test_report_run;
 mod pages;
 

@@ -5,6 +5,7 @@ use crate::report::of_report_text::failed_test;
 use crate::report::of_template::greeting;
 use crate::report::of_test_report_events::test_count_of;
 use crate::report::of_test_report_laws::succeeds_in_order;
+use crate::report::of_test_report_programs::status_of_lines;
 use crate::report::of_test_report_run::end_of_lines;
 use std::io;
 use template::push_text;
@@ -36,6 +37,17 @@ const PASSING_RUN: [&[u8]; 4] = [ONE_TEST, PARSES_STARTS, PARSES_PASSES, SUITE_P
 /// The lines of a run that ended while its second test was running.
 const ABORTED_RUN: [&[u8]; 4] = [TEN_TESTS, PARSES_STARTS, PARSES_PASSES, PRINTS_STARTS];
 
+/// The lines of the same run with those of its command and its program, which was ended by a signal after the test.
+const ENDED_BY_SIGNAL: [&[u8]; 7] = [
+    b"{\"type\":\"command\",\"event\":\"started\"}",
+    b"{\"type\":\"program\",\"event\":\"started\",\"name\":\"shop\"}",
+    ONE_TEST,
+    PARSES_STARTS,
+    PARSES_PASSES,
+    SUITE_PASSES,
+    b"{\"type\":\"program\",\"event\":\"ended\",\"signal\":11,\"stderr\":\"\"}",
+];
+
 /// Prints the result of each caller.
 pub(crate) fn show<R: AllocGlobal + Print>(rt: &R) -> io::Result<()> {
     show_greeting(rt)?;
@@ -49,7 +61,8 @@ pub(crate) fn show<R: AllocGlobal + Print>(rt: &R) -> io::Result<()> {
     for run in [PASSING_RUN, ABORTED_RUN] {
         show_success(rt, &run)?;
     }
-    Ok(())
+    show_status(rt, &PASSING_RUN)?;
+    show_status(rt, &ENDED_BY_SIGNAL)
 }
 
 /// Prints the greeting of a name that is no markup.
@@ -96,6 +109,14 @@ fn show_end<R: AllocGlobal + Print>(rt: &R) -> io::Result<()> {
 fn show_success<R: AllocGlobal + Print>(rt: &R, lines: &[&[u8]]) -> io::Result<()> {
     match succeeds_in_order(rt.alloc(), lines) {
         Ok(success) => println!(rt; "  succeeds in order: {success}"),
+        Err(_) => println!(rt; "  no end"),
+    }
+}
+
+/// Prints the exit status of a run whose lines may tell of each test program.
+fn show_status<R: AllocGlobal + Print>(rt: &R, lines: &[&[u8]]) -> io::Result<()> {
+    match status_of_lines(rt.alloc(), lines) {
+        Ok(status) => println!(rt; "  exit status: {status}"),
         Err(_) => println!(rt; "  no end"),
     }
 }
