@@ -74,8 +74,8 @@ Exit status:
   1  the run did not succeed: a test failed, some of the tests that a suite's first line announces neither ended
      nor were ignored, lines contradict each other, cargo reported a failure that no test explains, the command
      could not be started, ended by a signal, or failed and no line says why, or no test ran
-  2  an argument is invalid, or `--junit`, `--html`, `--markdown` or `--json` names standard output, a file that is
-     read, or the file of another of these options
+  2  an argument is invalid, the run cannot be saved, or `--junit`, `--html`, `--markdown`, `--json` or `--save` names
+     standard output, a file that is read, or the file of another of these options
   3  reading or writing failed, a file cannot be opened or written, or a number is too large to count";
 
 /// The text of `cargo test-report --help` between the options and the exit statuses.
@@ -144,6 +144,7 @@ fn with_options(command: Command) -> Command {
         .arg(file("html").help("Also write an HTML page to FILE. An old FILE is removed at the start"))
         .arg(file("markdown").help("Also append Markdown to FILE, such as $GITHUB_STEP_SUMMARY"))
         .arg(file("json").help("Also write the report as JSON to FILE. An old FILE is removed at the start"))
+        .arg(file("save").help("Also write the lines of the run to FILE as they come, if COMMAND is a `cargo test` or `cargo bench`"))
         .next_help_heading(STATUS_HEADING)
         .arg(
             choice("no-tests", "ACTION", "fail", ["fail", "pass"])

@@ -1,5 +1,6 @@
 //! What Ctrl-C and SIGTERM do.
 
+use crate::command::system::is_ignored;
 use deodarsieve::CancelReason;
 use signal_hook::consts::{SIGINT, SIGTERM};
 use signal_hook::flag::{register, register_conditional_default};
@@ -80,7 +81,7 @@ impl Drop for Held<'_> {
 
 impl Interrupt {
     /// From now on the first Ctrl-C or SIGTERM does not end the program. One that comes more than 0.2 seconds later ends
-    /// it by the default action of the signal.
+    /// it by the default action of the signal. A signal that the program ignores stays ignored.
     ///
     /// Fails if the system refuses a handler, a pipe or a thread.
     pub fn catch_first() -> io::Result<Interrupt> {
@@ -96,6 +97,9 @@ impl Interrupt {
             (SIGINT, &interrupt.is_interrupted),
             (SIGTERM, &interrupt.is_terminated),
         ] {
+            if is_ignored(signal) {
+                continue;
+            }
             register_conditional_default(signal, Arc::clone(&interrupt.next.ends))?;
             register(signal, Arc::clone(is_this))?;
             register(signal, Arc::clone(&interrupt.has_come))?;

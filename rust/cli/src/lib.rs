@@ -8,11 +8,15 @@
 #[doc(hidden)]
 pub mod cargo_arguments;
 #[doc(hidden)]
+pub mod cargo_message;
+#[doc(hidden)]
 pub mod command;
 #[doc(hidden)]
 pub mod commands;
 #[doc(hidden)]
 pub mod interrupt;
+#[doc(hidden)]
+pub mod lines;
 #[doc(hidden)]
 pub mod others;
 #[doc(hidden)]

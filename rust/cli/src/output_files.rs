@@ -9,7 +9,7 @@ use crate::same_file::{FileId, is_link, named_by_links, present};
 use clap::ArgMatches;
 use std::fmt;
 use std::fs::{self, File, FileType, OpenOptions};
-use std::io::{self, ErrorKind, Write};
+use std::io::{self, BufWriter, ErrorKind, Write};
 use std::path::{Path, is_separator};
 
 /// The name of standard input among the files of the run.
@@ -22,15 +22,19 @@ enum FileOption {
     Html,
     Markdown,
     Json,
+
+    /// The lines of the run, which are written as they come.
+    Save,
 }
 
 impl FileOption {
     /// All options, in the order in which their files are written.
-    const ALL: [FileOption; 4] = [
+    const ALL: [FileOption; 5] = [
         FileOption::Junit,
         FileOption::Html,
         FileOption::Markdown,
         FileOption::Json,
+        FileOption::Save,
     ];
 
     /// Returns the name of the option.
@@ -40,6 +44,7 @@ impl FileOption {
             FileOption::Html => "html",
             FileOption::Markdown => "markdown",
             FileOption::Json => "json",
+            FileOption::Save => "save",
         }
     }
 
@@ -47,7 +52,7 @@ impl FileOption {
     fn appends(self) -> bool {
         match self {
             FileOption::Markdown => true,
-            FileOption::Junit | FileOption::Html | FileOption::Json => false,
+            FileOption::Junit | FileOption::Html | FileOption::Json | FileOption::Save => false,
         }
     }
 
@@ -56,13 +61,14 @@ impl FileOption {
         matches.get_one(self.name()).map(String::as_str)
     }
 
-    /// Returns the text for the file, if there is one.
+    /// Returns the text that is written to the file at the end, if there is one.
     fn text(self, texts: &FileTexts) -> Option<&str> {
         match self {
             FileOption::Junit => texts.junit.as_ref().map(Document::as_str),
             FileOption::Html => texts.html.as_ref().map(Document::as_str),
             FileOption::Markdown => texts.markdown.as_ref().map(Document::as_str),
             FileOption::Json => texts.json.as_ref().map(Json::as_str),
+            FileOption::Save => None,
         }
     }
 }
@@ -163,6 +169,21 @@ impl OutputFiles {
         })
     }
 
+    /// Returns the file to which the lines of the run are saved, if an option names one. The file is new or, if it is a
+    /// device or a pipe, opened for writing.
+    ///
+    /// Fails if it cannot be opened.
+    pub fn saved_run(&self, interrupt: &Interrupt) -> Result<Option<SavedRun>, Failure> {
+        let file = self.files.iter().find(|it| it.option == FileOption::Save);
+        let saved = file.map(|file| {
+            let opened = file.stream(interrupt);
+            opened
+                .map(|opened| SavedRun::new(file.path.clone(), opened))
+                .map_err(|error| Failure::unwritten(&file.path, error))
+        });
+        saved.transpose()
+    }
+
     /// Writes the texts for the files. Fails at the first file that cannot be written.
     pub fn write(&self, texts: &FileTexts, interrupt: &Interrupt) -> Result<(), Failure> {
         for file in &self.files {
@@ -229,6 +250,17 @@ impl OutputFile {
         })
     }
 
+    /// Returns the file, new or opened for writing, for what comes from now on.
+    fn stream(&self, interrupt: &Interrupt) -> io::Result<File> {
+        match &self.target {
+            Target::Replaced(file) => {
+                let _held = interrupt.hold();
+                file.create()
+            }
+            Target::Appended | Target::Stream => open_to_append(&self.path),
+        }
+    }
+
     /// Writes a text to the file. While there is a temporary file, no signal ends the program.
     fn write(&self, text: &str, interrupt: &Interrupt) -> io::Result<()> {
         match &self.target {
@@ -239,6 +271,64 @@ impl OutputFile {
             Target::Appended => append(&self.path, text),
             Target::Stream => open_to_append(&self.path)?.write_all(text.as_bytes()),
         }
+    }
+}
+
+/// A file to which the lines of a run are saved. Once a write has failed, nothing more is written.
+pub struct SavedRun {
+    path: String,
+    file: BufWriter<File>,
+    error: Option<io::Error>,
+}
+
+impl SavedRun {
+    /// Returns the file at a path, which is open and has no line.
+    fn new(path: String, file: File) -> SavedRun {
+        SavedRun {
+            path,
+            file: BufWriter::new(file),
+            error: None,
+        }
+    }
+
+    /// Writes a line, and a line feed. It may come to the file with a later one.
+    pub fn write_line(&mut self, line: &[u8]) {
+        self.attempt(|file| {
+            file.write_all(line)?;
+            file.write_all(b"\n")
+        });
+    }
+
+    /// Writes what has not come to the file yet.
+    pub fn flush(&mut self) {
+        self.attempt(Write::flush);
+    }
+
+    /// Ends the file. Fails if one of the writes did.
+    pub fn finish(mut self) -> Result<(), Failure> {
+        self.flush();
+        match self.error {
+            Some(error) => Err(Failure::unwritten(&self.path, error)),
+            None => Ok(()),
+        }
+    }
+
+    /// Writes, unless a write has failed before.
+    fn attempt(&mut self, write: impl FnOnce(&mut BufWriter<File>) -> io::Result<()>) {
+        if self.error.is_none() {
+            self.error = write(&mut self.file).err();
+        }
+    }
+}
+
+/// Refuses an option that asks to save the run, if there is a reason why the run cannot be saved.
+pub fn refuse_save(matches: &ArgMatches, why: Option<&str>) -> Result<(), Failure> {
+    match (FileOption::Save.path(matches), why) {
+        (Some(path), Some(why)) => {
+            let message = format!("--save {path}: {why}");
+            Err(Failure::new(BAD_ARGUMENT, message))
+        }
+        _ => Ok(()),
     }
 }
 

@@ -41,6 +41,13 @@ impl ReplacedFile {
         present(fs::remove_file(&self.path)).map(drop)
     }
 
+    /// Creates the file, empty and with the permissions of the old one, so that what comes can be written to it at once.
+    pub fn create(&self) -> io::Result<File> {
+        let temporary = self.temporary()?;
+        fs::rename(&temporary.path, &self.path)?;
+        Ok(temporary.file)
+    }
+
     /// Replaces the file. A reader finds the old file or the whole new one, because the text is written to a temporary
     /// file that is then renamed. If this fails, the temporary file is removed.
     pub fn replace(&self, text: &str) -> io::Result<()> {

@@ -1,15 +1,16 @@
 //! The program `test-report`, which `cargo-test-report` is too.
 
 use crate::cargo_arguments::divided;
+use crate::command::prepared::prepare;
 use crate::command::stand_in::stand_in;
 use crate::commands::{cargo_test_report, test_report};
 use crate::interrupt::Interrupt;
-use crate::output_files::{OutputFiles, STANDARD_INPUT, refuse_conflicts};
+use crate::output_files::{OutputFiles, STANDARD_INPUT, SavedRun, refuse_conflicts, refuse_save};
 use crate::program::{BAD_ARGUMENT, DEVICE_FAILED, Failure, KeepError, print_clap};
 use crate::progress_line::ProgressLine;
 use crate::report::fault::Fault;
 use crate::report::options::{Options, OutputDisplay};
-use crate::report::{Files, Format, Report};
+use crate::report::{Ended, Files, Format, Report};
 use crate::run_input::{Input, PassOn, RunReader, Streams};
 use crate::standard_streams::{StandardOutput, check_output};
 use clap::{ArgMatches, Command};
@@ -202,7 +203,7 @@ fn catch_first_interrupt() -> Result<Interrupt, Failure> {
 /// standard error.
 fn write_report(
     matches: &ArgMatches,
-    input: &Input,
+    input: Input,
     (options, slow): (Options, u64),
     interrupt: &Interrupt,
     output_files: &OutputFiles,
@@ -212,28 +213,30 @@ fn write_report(
     let shows_progress = shows_progress(matches);
     let has_reader = shows_progress || io::stderr().is_terminal();
     let line = RefCell::new(ProgressLine::new(io::stderr()));
-    let mut streams = Streams::new(KeepError::new(StandardOutput::lock()), &line);
-    let pass_on = pass_on(matches);
+    let saved = output_files.saved_run(interrupt)?;
+    let writer = KeepError::new(StandardOutput::lock());
+    let mut streams = Streams::new(writer, &line, saved);
     let reader = RunReader::new(
         report,
         &mut streams,
-        pass_on,
+        pass_on(matches),
         interrupt,
         shows_progress,
         has_reader,
     );
     let ended = reader.report(input);
     line.borrow_mut().hide();
-    let Streams { output, others, .. } = streams;
+    let Streams {
+        output,
+        others,
+        saved,
+        ..
+    } = streams;
     match (ended, output.into_writer().into_error()) {
         (Ok(ended), _) => {
             output_files.write(&ended.files, interrupt)?;
-            let status = if others.has_failed() {
-                DEVICE_FAILED
-            } else {
-                ended.status
-            };
-            Ok(ExitCode::from(status))
+            saved.map_or(Ok(()), SavedRun::finish)?;
+            Ok(status_of(&ended, others.has_failed()))
         }
         (Err(_), Some(error)) if error.kind() == ErrorKind::BrokenPipe => {
             Ok(ExitCode::from(DEVICE_FAILED))
@@ -241,6 +244,16 @@ fn write_report(
         (Err(failure), Some(error)) => Err(failure.caused_by(Some(error))),
         (Err(failure), None) => Err(failure),
     }
+}
+
+/// Returns the exit status of a report that was written. `others_failed` is true if a line that is no event could not be
+/// passed on.
+fn status_of(ended: &Ended, others_failed: bool) -> ExitCode {
+    ExitCode::from(if others_failed {
+        DEVICE_FAILED
+    } else {
+        ended.status
+    })
 }
 
 /// Returns the form of standard output that the arguments ask for.
@@ -260,9 +273,10 @@ fn format_of(matches: &ArgMatches, options: Options) -> Format {
 
 /// Writes the report that the arguments ask for, and returns the exit status. Before anything is read, it makes sure that
 /// the report and the files can be written, that they do not mix, and that no old file is taken for a new one.
-fn report_of(matches: &ArgMatches, input: &Input) -> Result<ExitCode, Failure> {
+fn report_of(matches: &ArgMatches, input: Input) -> Result<ExitCode, Failure> {
     let shown = (options_of(matches)?, slow_of(matches)?);
     refuse_conflicts(matches, input.files())?;
+    refuse_save(matches, input.why_unsaved())?;
     let interrupt = catch_first_interrupt()?;
     let files = OutputFiles::open(matches, &interrupt)?;
     check_output().map_err(|error| Failure::from(Fault::Write).caused_by(Some(error)))?;
@@ -272,7 +286,8 @@ fn report_of(matches: &ArgMatches, input: &Input) -> Result<ExitCode, Failure> {
 /// Returns what `test-report` reads: the words after `--` are a command, and otherwise there are files.
 fn input_of(matches: &ArgMatches) -> Input {
     if let Some(words) = matches.get_many::<OsString>("command") {
-        return Input::Command(words.cloned().collect());
+        let words: Vec<_> = words.cloned().collect();
+        return Input::Command(Box::new(prepare(&words)));
     }
     match matches.get_many::<String>("file") {
         Some(files) if files.len() > 0 => Input::Files(files.cloned().collect()),
@@ -289,7 +304,8 @@ fn cargo_test(matches: &ArgMatches) -> Input {
         .into_iter()
         .flatten();
     let words = [cargo, "test".into()].into_iter().chain(words.cloned());
-    Input::Command(words.collect())
+    let words: Vec<_> = words.collect();
+    Input::Command(Box::new(prepare(&words)))
 }
 
 /// Returns the arguments without the first one, if it is the program's name as a subcommand: cargo starts
@@ -327,7 +343,7 @@ fn run(
     input_of: fn(&ArgMatches) -> Input,
 ) -> Result<ExitCode, Failure> {
     match program.try_get_matches_from(arguments) {
-        Ok(matches) => report_of(&matches, &input_of(&matches)),
+        Ok(matches) => report_of(&matches, input_of(&matches)),
         Err(message) => print_clap(&message),
     }
 }
@@ -348,7 +364,7 @@ pub fn cargo_test_report_with(arguments: Vec<OsString>) -> Result<ExitCode, Fail
 }
 
 /// Runs a program with the arguments of this process, and returns the exit status. If cargo started the process in
-/// place of a test program or of rustdoc, it becomes that one.
+/// place of a test program or of rustdoc, it runs that one.
 pub fn exit_code(program: fn(Vec<OsString>) -> Result<ExitCode, Failure>) -> ExitCode {
     let arguments: Vec<_> = env::args_os().collect();
     let own = arguments.get(1..).unwrap_or_default();

@@ -1,40 +1,50 @@
 //! Reads the files of a run, or what its command writes, and shows the progress meanwhile.
 
+use crate::command::prepared::Prepared;
 use crate::interrupt::Interrupt;
+use crate::lines::Lines;
 use crate::others::Others;
-use crate::output_files::STANDARD_INPUT;
+use crate::output_files::{STANDARD_INPUT, SavedRun};
 use crate::program::{DEVICE_FAILED, Failure};
 use crate::progress_line::{LONGEST_PAUSE, Output, ProgressLine, StartTimes};
 use crate::reading::Reading;
 use crate::report::fault::Fault;
 use crate::report::{Ended, Report, progress_text};
 use crate::standard_streams::{StandardError, StandardInput};
-use bstr::ByteSlice;
+use deodarsieve::CancelReason;
 use std::cell::RefCell;
 use std::collections::VecDeque;
-use std::ffi::OsString;
 use std::fs::File;
 use std::io::{self, Read, Stderr, Write};
+use std::mem;
 use std::path::Path;
 use std::time::{Duration, Instant};
 
 mod command;
+mod stand_ins;
 
 /// The message after Ctrl-C, if the input stays open.
 const STILL_READING: &str =
     "test-report: the summary follows at the end of the input; a second Ctrl-C ends without it";
 
+/// Why a run is not saved that is read from files or from a pipe.
+const FILES_UNSAVED: &str = "only the run of a command can be saved";
+
+/// Why the run of a command without stand-ins is not saved.
+const COMMAND_UNSAVED: &str = "the run of this command cannot be saved. That needs a `cargo test` or `cargo bench`, no \
+                               RUSTC_BOOTSTRAP, and no setting that names a runner or a rustdoc";
+
 /// The name of a file that somebody has forgotten the `--` before.
 const CARGO: &str = "cargo";
 
 /// What a run is read from.
-#[derive(Clone, Debug, PartialEq, Eq)]
+#[derive(Debug, PartialEq, Eq)]
 pub enum Input {
     /// These files, one after another. One is standard input.
     Files(Vec<String>),
 
-    /// The output of this command, and its arguments.
-    Command(Vec<OsString>),
+    /// The output of this command.
+    Command(Box<Prepared>),
 }
 
 impl Input {
@@ -43,6 +53,15 @@ impl Input {
         match self {
             Input::Files(files) => files,
             Input::Command(_) => &[],
+        }
+    }
+
+    /// Returns why the run cannot be saved, or `None` if it can.
+    pub fn why_unsaved(&self) -> Option<&'static str> {
+        match self {
+            Input::Files(_) => Some(FILES_UNSAVED),
+            Input::Command(prepared) if prepared.stand_in.is_none() => Some(COMMAND_UNSAVED),
+            Input::Command(_) => None,
         }
     }
 
@@ -98,15 +117,24 @@ pub struct Streams<'a, W> {
 
     /// Standard error, for the lines that are no events.
     pub others: Others<Output<'a, StandardError>>,
+
+    /// The file to which the lines of the run are saved, if there is one.
+    pub saved: Option<SavedRun>,
 }
 
 impl<'a, W: Write> Streams<'a, W> {
-    /// Returns standard error, and this writer as standard output.
-    pub fn new(writer: W, line: &'a RefCell<ProgressLine<Stderr>>) -> Streams<'a, W> {
+    /// Returns standard error, this writer as standard output, and the file to which the lines of the run are saved, if
+    /// there is one.
+    pub fn new(
+        writer: W,
+        line: &'a RefCell<ProgressLine<Stderr>>,
+        saved: Option<SavedRun>,
+    ) -> Streams<'a, W> {
         Streams {
             line,
             output: Output::new(writer, line),
             others: Others::new(Output::new(StandardError::get(), line)),
+            saved,
         }
     }
 }
@@ -115,11 +143,14 @@ impl<'a, W: Write> Streams<'a, W> {
 pub struct RunReader<'a, 'line, W: Write> {
     report: Report,
 
-    /// The bytes of the current line that were read before.
-    begun: Vec<u8>,
+    /// The line that has begun.
+    lines: Lines,
     streams: &'a mut Streams<'line, W>,
     pass_on: PassOn,
     interrupt: &'a Interrupt,
+
+    /// Why the run is cancelled, as far as the report knows.
+    cancelled: Option<CancelReason>,
 
     /// True if the line of progress is wanted.
     shows_progress: bool,
@@ -133,19 +164,23 @@ impl<'a, 'line, W: Write> RunReader<'a, 'line, W> {
     /// Returns a report that has read nothing. `shows_progress` is true if the line of progress is wanted, and
     /// `has_reader` if a message on standard error would be read.
     pub fn new(
-        report: Report,
+        mut report: Report,
         streams: &'a mut Streams<'line, W>,
         pass_on: PassOn,
         interrupt: &'a Interrupt,
         shows_progress: bool,
         has_reader: bool,
     ) -> RunReader<'a, 'line, W> {
+        if !shows_progress {
+            report.name_hung_tests();
+        }
         RunReader {
             report,
-            begun: Vec::new(),
+            lines: Lines::default(),
             streams,
             pass_on,
             interrupt,
+            cancelled: None,
             shows_progress,
             starts: StartTimes::default(),
             message: has_reader.then_some(STILL_READING),
@@ -155,10 +190,10 @@ impl<'a, 'line, W: Write> RunReader<'a, 'line, W> {
     /// Reads the whole run, and writes the report.
     ///
     /// Fails if a read or a write does.
-    pub fn report(mut self, input: &Input) -> Result<Ended, Failure> {
+    pub fn report(mut self, input: Input) -> Result<Ended, Failure> {
         let command = match input {
             Input::Files(files) => {
-                refuse_command(files)?;
+                refuse_command(&files)?;
                 for (place, path) in files.iter().enumerate() {
                     if place > 0 {
                         self.report.end_file(&mut self.streams.output)?;
@@ -167,7 +202,7 @@ impl<'a, 'line, W: Write> RunReader<'a, 'line, W> {
                 }
                 None
             }
-            Input::Command(words) => Some(self.run_command(words)?),
+            Input::Command(prepared) => self.run_command(&prepared)?,
         };
         Ok(self.report.finish(command, &mut self.streams.output)?)
     }
@@ -214,20 +249,18 @@ impl<'a, 'line, W: Write> RunReader<'a, 'line, W> {
     /// Passes the lines that end in a piece of a file to the report.
     fn take_piece(&mut self, piece: &[u8]) -> Result<(), Fault> {
         self.note_cancel();
-        let mut line = std::mem::take(&mut self.begun);
-        let mut rest = piece;
-        while let Some(at) = rest.find_byte(b'\n') {
-            line.extend_from_slice(&rest[..at]);
-            self.take_line(&line)?;
-            line.clear();
-            rest = &rest[at + 1..];
-        }
-        line.extend_from_slice(rest);
-        self.begun = line;
+        let mut lines = mem::take(&mut self.lines);
+        lines.take(piece, |line| self.take_line(line))?;
+        self.lines = lines;
+        self.note_input();
+        Ok(())
+    }
+
+    /// Lets the line of progress show what has come, from the first suite on.
+    fn note_input(&self) {
         if self.report.run().has_suite() && self.shows_progress {
             self.streams.line.borrow_mut().note_input();
         }
-        Ok(())
     }
 
     /// Passes a line to the report. From the first suite on cargo repeats no line: tests print what is passed on.
@@ -243,19 +276,22 @@ impl<'a, 'line, W: Write> RunReader<'a, 'line, W> {
 
     /// Passes the rest of the last line to the report. It is a line unless it is empty.
     fn end_line(&mut self) -> Result<(), Fault> {
-        let line = std::mem::take(&mut self.begun);
-        if line.is_empty() {
-            return Ok(());
+        match self.lines.end() {
+            Some(line) => self.take_line(&line),
+            None => Ok(()),
         }
-        self.take_line(&line)
     }
 
     /// Tells the report why the run is cancelled, if a signal has come. Ctrl-C after SIGTERM is another reason, so the
-    /// report gets it, too.
-    fn note_cancel(&mut self) {
-        if let Some(reason) = self.interrupt.reason() {
-            self.report.cancel(reason);
+    /// report gets it, too. Returns the reason if the report did not know it.
+    fn note_cancel(&mut self) -> Option<CancelReason> {
+        let reason = self.interrupt.reason()?;
+        if self.cancelled == Some(reason) {
+            return None;
         }
+        self.cancelled = Some(reason);
+        self.report.cancel(reason);
+        Some(reason)
     }
 
     /// Writes the message after Ctrl-C, once.

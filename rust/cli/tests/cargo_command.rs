@@ -53,7 +53,7 @@ fn fails() {
 
 #[test]
 fn sees_no_change() {
-    let variables = ["TEST_REPORT_AS_RUSTDOC", "RUSTDOC"];
+    let variables = ["TEST_REPORT_AS_RUSTDOC", "TEST_REPORT_PROGRAMS", "RUSTDOC"];
     assert!(variables.iter().all(|name| std::env::var_os(name).is_none()));
 }
 "#,
@@ -195,7 +195,7 @@ fn the_end_of_the_output_is_passed_on_without_a_line_feed() {
 }
 
 #[test]
-fn a_package_that_does_not_compile_is_a_failure_of_cargo() {
+fn a_package_that_does_not_compile_has_annotations() {
     let folder = Folder::new("broken");
     write_package(&folder);
     fs::write(folder.0.join("tests/it.rs"), "fn main() { none() }\n").expect("it is a file");
@@ -204,10 +204,12 @@ fn a_package_that_does_not_compile_is_a_failure_of_cargo() {
         &["--format", "github", "--", env!("CARGO"), "test"],
     );
     let text = String::from_utf8_lossy(&output.stdout);
-    assert!(
-        text.starts_with("::error::cargo: error: could not compile `money` (test \"it\") "),
-        "{text}"
-    );
+    let annotation = "::error file=tests/it.rs,line=1,col=13,title=could not compile money (test \"it\")\
+                      ::error[E0425]: cannot find function `none` in this scope%0A --> tests/it.rs:1:13%0A";
+    assert!(text.starts_with(annotation), "{text}");
+    let notice = "\n::notice::the tests could not be built, outcome failed\n";
+    assert!(text.ends_with(notice), "{text}");
+    assert_eq!(text.lines().count(), 2, "{text}");
     assert_eq!(output.status.code(), Some(1));
     let messages = String::from_utf8_lossy(&output.stderr);
     assert!(messages.contains("error[E0425]: cannot find"), "{messages}");

@@ -23,7 +23,7 @@ const LATER: &str = r#"{ "type": "test", "name": "pays", "event": "failed", "std
 "#;
 
 /// Returns the report of the run if a signal comes after the first failed test. After Ctrl-C the second failed test has
-/// only its line. After SIGTERM it is shown as without a signal.
+/// only its line. After SIGTERM it is shown as without a signal. That the suite has no last line is no contradiction.
 fn report_after(signal: &str) -> String {
     let (why, listed) = match signal {
         "INT" => ("", ""),
@@ -37,12 +37,10 @@ fn report_after(signal: &str) -> String {
 FAIL suite 1 adds
     Error: no such currency
 FAIL suite 1 pays
-{why}suite 1 ended early
-------------
+{why}------------
      Summary 2 tests run: 0 passed (0 flaky), 2 failed (0 timed out, 0 crashed), 0 skipped, 0 not run
         FAIL suite 1 adds: Error: no such currency
-{listed}       ERROR suite 1 ended early
-outcome failed
+{listed}outcome failed
 "
     )
 }

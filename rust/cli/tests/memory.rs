@@ -1,11 +1,13 @@
-//! The memory of `test-report` does not grow with the tests that passed.
+//! The memory of `test-report` does not grow with the tests that passed, and that of a stand-in not with what its program
+//! writes.
 #![cfg(target_os = "linux")]
 
 mod common;
 
-use common::command;
+use common::{Folder, command};
 use std::fs;
-use std::io::Write;
+use std::io::{BufRead, BufReader, Write};
+use std::process::Stdio;
 
 /// Returns the greatest memory of a process until now, in kilobytes.
 fn peak_of(process: u32) -> usize {
@@ -53,4 +55,37 @@ fn memory_does_not_grow_with_tests_that_passed() {
         assert_eq!(output.status.code(), Some(0), "{form}");
         assert!(after < before + 512, "{form}: {before} kB, then {after} kB");
     }
+}
+
+/// A program that writes 1 MB of lines to both streams, and then 20 MB.
+const WRITES: &str = r#"#!/bin/sh
+for millions in 1 20; do
+    yes "a line of a test" | head -c "${millions}000000"
+    yes "a line of a server" | head -c "${millions}000000" >&2
+    echo
+    echo written
+    read line
+done
+"#;
+
+#[test]
+fn a_stand_in_holds_no_more_than_a_line_and_the_end_of_standard_error() {
+    let folder = Folder::new("held");
+    let path = folder.script("program", WRITES);
+    let mut child = command("test-report", &["--as-runner", &path])
+        .stderr(Stdio::null())
+        .spawn()
+        .expect("the program starts");
+    let mut stdin = child.stdin.take().expect("standard input is a pipe");
+    let stdout = BufReader::new(child.stdout.take().expect("standard output is a pipe"));
+    let mut lines = stdout.lines().map(|line| line.expect("the line is UTF-8"));
+    let mut peaks = Vec::new();
+    for _ in 0..2 {
+        lines.find(|line| line == "written").expect("it is written");
+        peaks.push(peak_of(child.id()));
+        stdin.write_all(b"\n").expect("the program reads");
+    }
+    assert_eq!(lines.count(), 1, "the end of the program");
+    assert!(child.wait().expect("the program ends").success());
+    assert!(peaks[1] < peaks[0] + 512, "{peaks:?} kB");
 }

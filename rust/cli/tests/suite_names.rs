@@ -87,7 +87,7 @@ fn suites_have_the_names_that_nextest_gives_them() {
     let folder = Folder::new("workspace");
     write_workspace(&folder);
     let all = names(&folder.0, &["test", "--workspace"]);
-    let documentation = ["bank", "money", "steel"].map(|name| format!("{name} (doc tests)"));
+    let documentation = ["bank", "money", "steel-vault"].map(|name| format!("{name} (doc tests)"));
     assert_eq!(all[..9], wanted(""));
     assert_eq!(all[9..], documentation);
     let mut money = wanted("money/");

@@ -1,64 +1,56 @@
-//! Finds the names that nextest gives to the suites of test programs, in the messages of the cargo that builds them.
-//!
-//! With `--message-format json-render-diagnostics`, cargo writes a JSON object for each program. The headings of
-//! `cargo test` have only the paths of the programs, so each name is found by a path.
+//! Finds the test programs in the messages of the cargo that builds them, with the names that nextest gives to their
+//! suites.
 
+use super::manifest::Manifest;
+use super::programs::TestProgram;
+use crate::cargo_message::{Artifact, TargetId};
 use deodarsieve_run::SuiteNames;
-use serde_json::Value;
-use std::io::{self, BufRead, BufReader, Read};
+use std::collections::HashMap;
 use std::path::{Path, PathBuf};
-use std::sync::mpsc::{Receiver, Sender, channel};
-use std::thread;
-use std::time::Duration;
 
-/// How long a message may take to come after the end of cargo. A process in the background may keep the pipe open.
-const QUIET: Duration = Duration::from_secs(2);
-
-/// The kinds of a library. Its unit tests have the name of the package.
-const LIBRARIES: [&str; 6] = ["lib", "rlib", "dylib", "cdylib", "staticlib", "proc-macro"];
-
-/// The name of the suites of a test program.
-#[derive(Debug, PartialEq, Eq)]
-struct NamedProgram {
-    /// The path of the program.
-    path: String,
-
-    /// The name that nextest gives to its suites.
-    name: String,
-}
-
-/// The messages of a cargo that builds, which a thread reads.
-#[derive(Debug)]
+/// The test programs that a cargo has built.
+#[derive(Debug, Default)]
 pub struct Artifacts {
-    programs: Receiver<NamedProgram>,
+    programs: Vec<TestProgram>,
 
-    /// The folder in which cargo works.
-    folder: PathBuf,
+    /// The manifests that were read, by their paths.
+    manifests: HashMap<PathBuf, Manifest>,
 }
 
 impl Artifacts {
-    /// Starts a thread that reads the messages of a cargo that works in `folder`.
-    ///
-    /// Fails if the system has no thread left.
-    pub fn start(messages: impl Read + Send + 'static, folder: PathBuf) -> io::Result<Artifacts> {
-        let (sender, programs) = channel();
-        thread::Builder::new().spawn(move || send_programs(messages, &sender))?;
-        Ok(Artifacts { programs, folder })
+    /// Adds a target, if it is a test program.
+    pub fn add(&mut self, artifact: &Artifact) {
+        let Some(mut program) = test_program(artifact) else {
+            return;
+        };
+        if let Some(path) = &artifact.manifest_path {
+            let manifest = self
+                .manifests
+                .entry(PathBuf::from(path))
+                .or_insert_with_key(|path| Manifest::read(path));
+            program.harness = !manifest.has_own_harness(&program.kind, &program.target);
+        }
+        self.programs.push(program);
     }
 
-    /// Returns the names of the suites of all test programs, by the paths that cargo's headings have. Call it after the
-    /// end of cargo.
-    pub fn names(&self) -> SuiteNames {
-        let mut names = SuiteNames::new();
-        while let Ok(NamedProgram { path, name }) = self.programs.recv_timeout(QUIET) {
-            if let Some(short) = path_in(&self.folder, &path) {
-                names.insert(short, name.clone());
-            }
-            // The headings of `cargo test -v` have the whole path.
-            names.insert(path, name);
-        }
-        names
+    /// Returns the test programs.
+    pub fn into_programs(self) -> Vec<TestProgram> {
+        self.programs
     }
+}
+
+/// Returns the names of the suites of test programs, by the paths that the headings of a cargo have that works in
+/// `folder`.
+pub fn suite_names(programs: &[TestProgram], folder: &Path) -> SuiteNames {
+    let mut names = SuiteNames::new();
+    for TestProgram { path, name, .. } in programs {
+        if let Some(short) = path_in(folder, path) {
+            names.insert(short, name.clone());
+        }
+        // The headings of `cargo test -v` have the whole path.
+        names.insert(path.clone(), name.clone());
+    }
+    names
 }
 
 /// Returns the path of a program relative to a folder, or `None` if it is not in the folder. Cargo's headings have such
@@ -68,92 +60,53 @@ fn path_in(folder: &Path, path: &str) -> Option<String> {
     path.to_str().map(String::from)
 }
 
-/// Sends the test programs in the lines of a reader, until it ends or fails. Names that are not known are no failure.
-fn send_programs(messages: impl Read, sender: &Sender<NamedProgram>) {
-    for line in BufReader::new(messages).split(b'\n') {
-        let Ok(line) = line else { return };
-        if let Some(program) = program_in(&line)
-            && sender.send(program).is_err()
-        {
-            return;
-        }
-    }
-}
-
-/// Returns the test program of a message, or `None` if it is another message.
-fn program_in(line: &[u8]) -> Option<NamedProgram> {
-    let message: Value = serde_json::from_slice(line).ok()?;
-    let is_test = message["profile"]["test"].as_bool()?;
-    if message["reason"] != "compiler-artifact" || !is_test {
-        return None;
-    }
-    let package = package_of(message["package_id"].as_str()?)?;
-    let target = &message["target"];
-    let kinds = target["kind"].as_array()?.iter().filter_map(Value::as_str);
-    Some(NamedProgram {
-        path: message["executable"].as_str()?.to_string(),
-        name: suite_name(package, kinds, target["name"].as_str()?)?,
+/// Returns a test program, with the usual harness, or `None` if the target is none.
+fn test_program(artifact: &Artifact) -> Option<TestProgram> {
+    let path = artifact
+        .executable
+        .as_ref()
+        .filter(|_| artifact.is_test())?;
+    let target = artifact.target();
+    Some(TestProgram {
+        path: path.clone(),
+        package: target.package().to_string(),
+        name: suite_name(&target),
+        target: target.name,
+        kind: target.kind,
+        harness: true,
     })
 }
 
-/// Returns nextest's name of the suites of a target, or `None` if the target has no kind.
-fn suite_name<'a>(
-    package: &str,
-    mut kinds: impl Iterator<Item = &'a str>,
-    target: &str,
-) -> Option<String> {
-    // A target that is no library has one kind.
-    let kind = kinds.next()?;
-    Some(match kind {
-        _ if LIBRARIES.contains(&kind) => package.to_string(),
-        "test" => format!("{package}::{target}"),
-        _ => format!("{package}::{kind}/{target}"),
-    })
-}
-
-/// Returns the name of the package with this identifier: `NAME VERSION (SOURCE)`, as cargo before 1.77 writes it, or a
-/// URL. After the `#` of a URL there is `NAME@VERSION`, or the version alone if the name is the last part of the
-/// URL's path.
-fn package_of(id: &str) -> Option<&str> {
-    if let Some((name, _)) = id.split_once(' ') {
-        return Some(name);
-    }
-    let (url, fragment) = id.rsplit_once('#')?;
-    match fragment.split_once('@') {
-        Some((name, _)) => Some(name),
-        None => url.split('?').next()?.rsplit('/').next(),
+/// Returns nextest's name of the suites of a target.
+fn suite_name(target: &TargetId) -> String {
+    let package = target.package();
+    match target.kind.as_str() {
+        _ if target.is_library() => package.to_string(),
+        "test" => format!("{package}::{}", target.name),
+        kind => format!("{package}::{kind}/{}", target.name),
     }
 }
 
 #[cfg(test)]
 mod tests {
     use super::*;
-    use serde_json::json;
+    use crate::cargo_message::CargoMessage;
+    use serde_json::{Value, json};
 
-    /// Returns a message of cargo about a target, and whether it was built as a test program.
-    fn message(id: &str, kinds: &[&str], target: &str, is_test: bool) -> Value {
+    /// Returns a message of cargo about a target of the package `money`.
+    fn message(kinds: &[&str], target: &str, is_test: bool) -> Value {
         json!({
-            "reason": "compiler-artifact", "package_id": id, "target": {"kind": kinds, "name": target},
-            "profile": {"test": is_test}, "executable": "/a/target/debug/deps/x-0123456789abcdef",
+            "reason": "compiler-artifact", "package_id": "path+file:///a/money#0.1.0",
+            "target": {"kind": kinds, "name": target}, "profile": {"test": is_test}, "executable": "/a/target/it-0",
         })
     }
 
-    #[test]
-    fn the_package_has_a_name_in_each_form_of_its_identifier() {
-        let cases = [
-            ("path+file:///a/money#0.1.0", "money"),
-            ("path+file:///a/other#money@0.1.0", "money"),
-            ("path+file:///a%20b/money#0.1.0+build.1", "money"),
-            ("registry+https://github.com/a/index#money@1.0.0", "money"),
-            ("git+https://b.c/money?branch=a/b#0.1.0", "money"),
-            ("git+https://b.c/d.git?rev=1#money@0.1.0-a.1", "money"),
-            ("money 0.1.0 (path+file:///a/other#x)", "money"),
-            ("money 1.0.0 (registry+https://github.com/a/index)", "money"),
-        ];
-        for (id, name) in cases {
-            assert_eq!(package_of(id), Some(name), "{id}");
+    /// Returns the target of a message.
+    fn artifact(message: &Value) -> Artifact {
+        match CargoMessage::read(message.to_string().as_bytes()) {
+            Some(CargoMessage::CompilerArtifact(artifact)) => artifact,
+            other => panic!("{other:?}"),
         }
-        assert_eq!(package_of("money"), None);
     }
 
     #[test]
@@ -170,36 +123,48 @@ mod tests {
             (&["bench"], "money::bench/it"),
         ];
         for (kinds, name) in cases {
-            let line = message("path+file:///a/money#0.1.0", kinds, "it", true).to_string();
-            let found = program_in(line.as_bytes()).expect("this is a test program");
-            assert_eq!(found.name, name, "{kinds:?}");
-            assert_eq!(found.path, "/a/target/debug/deps/x-0123456789abcdef");
+            let wanted = TestProgram {
+                path: "/a/target/it-0".into(),
+                package: "money".into(),
+                target: "it".into(),
+                kind: kinds[0].into(),
+                name: name.into(),
+                harness: true,
+            };
+            let found = test_program(&artifact(&message(kinds, "it", true)));
+            assert_eq!(found, Some(wanted));
         }
     }
 
     #[test]
-    fn another_message_names_no_program() {
-        let test = message("a 0.1.0 (x)", &["test"], "it", true);
-        assert!(program_in(test.to_string().as_bytes()).is_some());
-        let with = |pointer: &str, value: Value| {
-            let mut changed = test.clone();
-            *changed.pointer_mut(pointer).expect("the message has it") = value;
-            changed.to_string()
-        };
-        for line in [
-            message("a 0.1.0 (x)", &["test"], "it", false).to_string(),
-            with("/reason", json!("compiler-message")),
-            with("/executable", json!(null)),
-            with("/package_id", json!("a")),
-            with("/target/kind", json!([])),
-            with("/target/name", json!(1)),
-            with("/profile", json!(null)),
-            r#"{"reason":"build-finished","success":true}"#.to_string(),
-            "{".to_string(),
-            String::new(),
-        ] {
-            assert_eq!(program_in(line.as_bytes()), None, "{line}");
+    fn another_target_is_no_test_program() {
+        let mut library = message(&["lib"], "money", true);
+        library["executable"] = json!(null);
+        for other in [message(&["bin"], "it", false), library] {
+            assert_eq!(test_program(&artifact(&other)), None, "{other}");
         }
+    }
+
+    #[test]
+    fn a_program_has_the_harness_that_the_manifest_of_its_package_says() {
+        let folder = tempfile::tempdir().expect("a folder can be made");
+        let manifest = folder.path().join("Cargo.toml");
+        let text = "[[test]]\nname = \"own\"\nharness = false\n";
+        std::fs::write(&manifest, text).expect("the folder is there");
+        let mut artifacts = Artifacts::default();
+        for target in ["own", "usual"] {
+            let mut message = message(&["test"], target, true);
+            message["manifest_path"] = json!(manifest);
+            artifacts.add(&artifact(&message));
+        }
+        artifacts.add(&artifact(&message(&["test"], "nowhere", true)));
+        let programs = artifacts.into_programs().into_iter();
+        let found: Vec<_> = programs.map(|it| (it.target, it.harness)).collect();
+        let wanted = [("own", false), ("usual", true), ("nowhere", true)];
+        assert_eq!(
+            found,
+            wanted.map(|(name, harness)| (name.to_string(), harness))
+        );
     }
 
     #[test]

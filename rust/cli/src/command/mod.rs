@@ -3,11 +3,17 @@
 mod aliases;
 pub mod artifacts;
 pub mod cargo;
+pub mod cargo_messages;
 mod conditions;
 pub mod end;
-pub mod hidden;
+mod last_output;
+mod manifest;
 pub mod prepared;
+pub mod programs;
 pub mod repeated;
+pub mod run_line;
 pub mod running;
 pub mod settings;
 pub mod stand_in;
+pub mod system;
+mod watching;

@@ -21,8 +21,14 @@ const CARGO_COLOR: &str = "CARGO_TERM_COLOR";
 const COST: &str = "test-report: RUSTC_BOOTSTRAP is set for the whole of cargo, because your settings name a runner or \
                     a rustdoc: packages whose build script watches this variable are compiled anew";
 
-/// The arguments with which cargo builds the tests and says which programs they are, and runs none.
-const BUILDS: [&str; 3] = ["--no-run", "--message-format", "json-render-diagnostics"];
+/// The arguments with which cargo builds the tests and runs none. A format of messages follows.
+const BUILDS: [&str; 2] = ["--no-run", "--message-format"];
+
+/// The format in which cargo says which programs it has built, and what the compiler says.
+const JSON: &str = "json";
+
+/// The same, if what the compiler says is to have colours.
+const COLORED_JSON: &str = "json-diagnostic-rendered-ansi";
 
 /// A command and what is added to it.
 #[derive(Debug, PartialEq, Eq)]
@@ -95,6 +101,12 @@ impl Prepared {
         let mut command = self.command_of(&build.words);
         command.stdin(Stdio::null());
         command
+    }
+
+    /// Returns true if the user wants cargo to say less. Then it writes no warnings of its own.
+    pub fn is_quiet(&self) -> bool {
+        let mut own = self.words.iter().take_while(|word| *word != "--");
+        own.any(|word| word == "-q" || word == "--quiet")
     }
 
     /// Returns a command of these words for the system.
@@ -183,8 +195,7 @@ fn with_harness(cargo: &CargoCommand, acceptance: &Acceptance) -> Prepared {
     }
     words.extend_from_slice(cargo.own);
     let mut harness = Vec::new();
-    // In cargo's message about a program that a signal ended, its arguments come before the name of the signal. So what
-    // stands in for the program adds the options.
+    // A stand-in adds the options itself, because it knows whether its program has a harness of its own.
     if !matches!(acceptance, Acceptance::StandIn(_)) {
         harness.extend(missing_options(cargo.harness).map(OsString::from));
     }
@@ -206,11 +217,25 @@ fn build_of(cargo: &CargoCommand, before: &[OsString]) -> Option<Build> {
     }
     let mut words = before.to_vec();
     words.extend(BUILDS.map(OsString::from));
+    words.push(message_format(cargo).into());
     words.extend_from_slice(cargo.own);
     Some(Build {
         words,
         folder: folder_of(cargo).ok()?,
     })
+}
+
+/// Returns the format of cargo's messages: with colours if cargo's own words have them.
+fn message_format(cargo: &CargoCommand) -> &'static str {
+    let options = [cargo.before, cargo.own].map(|words| values_of(words, "--color"));
+    let option = options.concat().last().map(|color| color.to_string());
+    let variable = env::var(CARGO_COLOR).ok();
+    match option.or(variable).as_deref() {
+        Some("always") => COLORED_JSON,
+        Some("never") => JSON,
+        _ if io::stderr().is_terminal() => COLORED_JSON,
+        _ => JSON,
+    }
 }
 
 /// Returns the folder in which cargo works.
@@ -350,13 +375,43 @@ mod tests {
         let cargo = CargoCommand::of(&given).expect("the command runs tests");
         let build_of = |acceptance| with_harness(&cargo, acceptance).build;
         let build = build_of(&Acceptance::Given).expect("cargo can build");
-        let builds = "--no-run --message-format json-render-diagnostics";
+        let builds = "--no-run --message-format json";
         let wanted = words(&format!("cargo --locked bench {builds} --lib a"));
         assert_eq!(build.words, wanted);
         assert_eq!(build.folder, env::current_dir().expect("there is a folder"));
         let build = build_of(&Acceptance::StandIn("a".into())).expect("cargo can build");
         assert_eq!(build.words[2], "--config");
         assert_eq!(build.words[6..], wanted[2..]);
+    }
+
+    #[test]
+    fn messages_have_colors_if_cargo_does() {
+        for (command, format) in [
+            ("cargo test --color always", COLORED_JSON),
+            ("cargo --color=always test", COLORED_JSON),
+            ("cargo --color always test --color never", JSON),
+            ("cargo test --color never", JSON),
+        ] {
+            let given = words(command);
+            let cargo = CargoCommand::of(&given).expect("the command runs tests");
+            assert_eq!(message_format(&cargo), format, "{command}");
+        }
+    }
+
+    #[test]
+    fn cargo_is_quiet_by_an_option_of_its_own() {
+        for (command, is_quiet) in [
+            ("cargo test -q", true),
+            ("cargo --quiet test", true),
+            ("cargo test", false),
+            ("cargo test -- -q", false),
+        ] {
+            let prepared = Prepared {
+                words: words(command),
+                ..unchanged(&[])
+            };
+            assert_eq!(prepared.is_quiet(), is_quiet, "{command}");
+        }
     }
 
     #[test]

@@ -1,5 +1,6 @@
 //! A command that runs, while the program reads what it writes.
 
+use super::system::terminate;
 use crate::program::{DEVICE_FAILED, Failure};
 use std::io::{self, PipeReader, pipe};
 use std::process::{Child, Command, ExitStatus, Stdio};
@@ -71,7 +72,7 @@ impl RunningCommand {
     pub fn terminate(&mut self) {
         // A command that has been waited for has no number any more, and another process may have it.
         if matches!(self.status(), Ok(None)) {
-            send_terminate(&mut self.child);
+            terminate(&mut self.child);
         }
     }
 }
@@ -90,41 +91,6 @@ impl Drop for RunningCommand {
 pub fn not_waited(error: io::Error) -> Failure {
     Failure::new(DEVICE_FAILED, "the command cannot be waited for").caused_by(Some(error))
 }
-
-#[cfg(unix)]
-mod signal {
-    use signal_hook::consts::SIGTERM;
-    use std::process::Child;
-
-    #[allow(
-        unsafe_code,
-        reason = "the standard library has no call that sends SIGTERM. This one takes two numbers and touches no memory"
-    )]
-    unsafe extern "C" {
-        /// Sends a signal to a process.
-        safe fn kill(process: i32, signal: i32) -> i32;
-    }
-
-    /// Sends SIGTERM to a child that was not waited for.
-    pub(super) fn send_terminate(child: &mut Child) {
-        // The number of a process is above 0, and fits.
-        if let Ok(process) = i32::try_from(child.id()) {
-            kill(process, SIGTERM);
-        }
-    }
-}
-
-#[cfg(not(unix))]
-mod signal {
-    use std::process::Child;
-
-    /// Ends a child. If that fails, it has ended already.
-    pub(super) fn send_terminate(child: &mut Child) {
-        let _ = child.kill();
-    }
-}
-
-use signal::send_terminate;
 
 #[cfg(all(test, unix))]
 mod tests {

@@ -3,6 +3,7 @@
 use crate::report::entry::Entry;
 use crate::report::escape::{line, text};
 use crate::report::failure::ShownFailure;
+use crate::report::limit::Limit;
 use crate::report::options::Options;
 use crate::report::output::Text;
 use crate::report::problem::Problem;
@@ -23,7 +24,13 @@ impl Annotation {
         match entry {
             Entry::Failed(failure) => Some(Annotation::of_failure(failure, options)),
             Entry::Problem(problem) => Some(Annotation::of_problem(problem)),
-            Entry::Passed(_) | Entry::Flaky(_) | Entry::Skipped(_) | Entry::Suite(_) => None,
+            Entry::CompilerError(problem) => Some(Annotation::of_compiler_error(problem, options)),
+            Entry::Passed(_)
+            | Entry::Flaky(_)
+            | Entry::Skipped(_)
+            | Entry::Stopped(_)
+            | Entry::Suite(_)
+            | Entry::FailedTarget(_) => None,
         }
     }
 
@@ -60,6 +67,28 @@ impl Annotation {
         }
     }
 
+    /// Returns the annotation of an error of the compiler: its place, its target and its text.
+    fn of_compiler_error(problem: &Problem<'_>, options: Options) -> Annotation {
+        let mut properties = Vec::new();
+        let mut why = None;
+        if let Some(source) = &problem.source {
+            if let Some(place) = source.place() {
+                properties.push((PropertyName::File, line(&place.file)));
+                properties.push((PropertyName::Line, place.line.to_string()));
+                properties.push((PropertyName::Column, place.column.to_string()));
+            }
+            let title = format!("could not compile {}", source.target);
+            properties.push((PropertyName::Title, title));
+            why = source
+                .text()
+                .map(|whole| text(&Limit::of(options).shown(&whole)));
+        }
+        Annotation {
+            properties,
+            message: why.unwrap_or_else(|| problem.line.clone()),
+        }
+    }
+
     /// Appends the annotation as a command.
     pub(crate) fn push(&self, text: &mut Text) {
         let properties: Vec<_> = self
@@ -74,6 +103,13 @@ impl Annotation {
 /// Appends the notice with the summary and the outcome of a run.
 pub(crate) fn push_notice(end: &RunEnd, text: &mut Text) {
     let message = format!("{}, outcome {}", summary(end), outcome_text(end.outcome));
+    text.push_command(Kind::Notice, &[], &message);
+}
+
+/// Appends the notice that the tests could not be built.
+pub(crate) fn push_build_notice(end: &RunEnd, text: &mut Text) {
+    let outcome = outcome_text(end.outcome);
+    let message = format!("the tests could not be built, outcome {outcome}");
     text.push_command(Kind::Notice, &[], &message);
 }
 

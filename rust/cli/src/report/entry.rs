@@ -1,11 +1,14 @@
 //! Entries: what the forms take.
 
+use crate::report::build::FailedTarget;
 use crate::report::failure::ShownFailure;
 use crate::report::options::Options;
 use crate::report::problem::Problem;
-use deodarsieve_run::{Note, SuiteNote, TestNote, TestOutcome};
+use crate::report::stopped::StoppedTests;
+use crate::report::thread_panic::ThreadPanics;
+use deodarsieve_run::{Disagreement, Note, SuiteNote, TestNote, TestOutcome};
 
-/// A note of a run, with what every form shows of it.
+/// A note of a run, or what a build that failed makes known, with what the forms show of it.
 pub(crate) enum Entry<'a> {
     /// A test passed.
     Passed(&'a TestNote),
@@ -16,6 +19,9 @@ pub(crate) enum Entry<'a> {
     /// A test was skipped.
     Skipped(&'a TestNote),
 
+    /// A test was stopped: the run was cancelled, or another test crashed.
+    Stopped(&'a TestNote),
+
     /// A test failed.
     Failed(ShownFailure<'a>),
 
@@ -24,25 +30,44 @@ pub(crate) enum Entry<'a> {
 
     /// A suite has ended.
     Suite(&'a SuiteNote),
+
+    /// A target does not compile. Its errors are entries of their own.
+    FailedTarget(&'a FailedTarget<'a>),
+
+    /// The compiler reports an error. The form for people shows it below its target.
+    CompilerError(Problem<'a>),
 }
 
 impl<'a> Entry<'a> {
-    /// Returns the entry of a note. Of the options it uses only `limit` and `output`.
-    pub(crate) fn of(note: &'a Note, options: Options) -> Entry<'a> {
-        match note {
+    /// Returns the entry of a note, or `None` if no form shows it: that the run was cancelled is shown once, at its end.
+    /// `stopped` are the tests that became known as stopped at the same time, and `panics` are those in what the
+    /// program of the note wrote, if that is known. Of the options it uses only `limit` and `output`.
+    pub(crate) fn of(
+        note: &'a Note,
+        stopped: &StoppedTests<'_>,
+        panics: &ThreadPanics<'a>,
+        options: Options,
+    ) -> Option<Entry<'a>> {
+        let entry = match note {
             Note::Test(test) => match &test.outcome {
                 TestOutcome::Passed { .. } => Entry::Passed(test),
                 TestOutcome::Skipped { .. } => Entry::Skipped(test),
+                TestOutcome::Stopped => Entry::Stopped(test),
                 TestOutcome::Failed(failure) => {
-                    Entry::Failed(ShownFailure::of(test, failure, options))
+                    Entry::Failed(ShownFailure::of(test, failure, panics, options))
                 }
             },
             Note::Flaky(test) => Entry::Flaky(test),
+            Note::Disagreement(Disagreement::Cancelled(_)) => return None,
             Note::Disagreement(disagreement) => {
-                Entry::Problem(Problem::of_disagreement(disagreement, options.output))
+                let problem = Problem::of_disagreement(disagreement, stopped, options.output);
+                Entry::Problem(problem)
             }
-            Note::NotRun(not_run) => Entry::Problem(Problem::of_not_run(not_run)),
+            Note::NotRun(not_run) => {
+                Entry::Problem(Problem::of_not_run(not_run, stopped, options.output))
+            }
             Note::Suite(suite) => Entry::Suite(suite),
-        }
+        };
+        Some(entry)
     }
 }

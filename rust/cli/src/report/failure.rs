@@ -1,11 +1,13 @@
 //! Failed tests, and what is shown of why they failed.
 
+use crate::report::ends::crash_end;
 use crate::report::explanation::{Excerpt, Explanation, Found};
 use crate::report::limit::{Limit, may_have_cut_lines};
 use crate::report::lines::{without_returns, written_count};
 use crate::report::options::{Options, OutputDisplay};
 use crate::report::place::Place;
 use crate::report::short::short_reason;
+use crate::report::thread_panic::ThreadPanics;
 use crate::report::words::seconds_text;
 use deodarsieve_run::{Crash, Failure, FailureKind, TestNote};
 use std::borrow::Cow;
@@ -18,6 +20,9 @@ pub(crate) struct ShownFailure<'a> {
 
     /// How it failed.
     pub(crate) failure: &'a Failure,
+
+    /// The text that may explain the failure.
+    output: &'a str,
 
     /// The place in the sources, if it is known.
     pub(crate) place: Option<Place<'a>>,
@@ -72,12 +77,20 @@ impl Why {
 }
 
 impl<'a> ShownFailure<'a> {
-    /// Returns what is shown of a failed test. Of the options it uses only `limit` and `output`.
-    pub(crate) fn of(test: &'a TestNote, failure: &'a Failure, options: Options) -> Self {
-        let found = Found::of(output_of(failure));
+    /// Returns what is shown of a failed test. `panics` are those in what its program wrote to standard error, if that is
+    /// known. Of the options it uses only `limit` and `output`.
+    pub(crate) fn of(
+        test: &'a TestNote,
+        failure: &'a Failure,
+        panics: &ThreadPanics<'a>,
+        options: Options,
+    ) -> Self {
+        let output = output_of(test, failure, panics);
+        let found = Found::of(output);
         ShownFailure {
             test,
             failure,
+            output,
             place: Place::of(test, failure, &found),
             reason: short_reason(test, failure, &found),
             explanation: found.explanation(),
@@ -136,7 +149,7 @@ impl<'a> ShownFailure<'a> {
         let shown = excerpt.as_ref().map_or(0, Excerpt::written_count);
         let hidden = match crash_of(self.failure) {
             Some(_) => 0,
-            None => written_count(output_of(self.failure)).saturating_sub(shown),
+            None => written_count(self.output).saturating_sub(shown),
         };
         match excerpt {
             Some(excerpt) => parts.push(excerpt.text()),
@@ -154,7 +167,7 @@ impl<'a> ShownFailure<'a> {
         above: &[Cow<'_, str>],
         limit: Limit,
     ) -> Option<Excerpt<'a>> {
-        let all = output_of(self.failure);
+        let all = self.output;
         let is_crash = crash_of(self.failure).is_some();
         let whole = all.trim_end();
         let is_whole = match output {
@@ -175,18 +188,20 @@ impl<'a> ShownFailure<'a> {
         }
     }
 
-    /// Returns the reasons that lines of the run give for the failure. For a crash these are a sentence, and the cause
-    /// that cargo names.
+    /// Returns the reasons that lines of the run give for the failure. For a crash these are a sentence, how the program
+    /// ended, and the cause that cargo names.
     fn reasons(&self) -> Vec<Cow<'a, str>> {
         let failure = self.failure;
         let reasons = match crash_of(failure) {
             Some(crash) => [
                 Some(crash_words(crash).into()),
+                crash.end.map(|end| crash_end(end).into()),
                 crash.cause.as_deref().map(Cow::from),
             ],
             None => [
                 reason_of(failure, self.test.time),
                 failure.message.as_deref().map(Cow::from),
+                None,
             ],
         };
         reasons.into_iter().flatten().collect()
@@ -203,11 +218,13 @@ impl<'a> ShownFailure<'a> {
     }
 }
 
-/// Returns the text that explains a failure: the prints before a crash, or else the output of the test.
-fn output_of(failure: &Failure) -> &str {
-    match crash_of(failure) {
-        Some(crash) => &crash.prints,
-        None => failure.stdout.as_deref().unwrap_or(""),
+/// Returns the text that may explain a failure: the prints before a crash, or else the output of the test or, if that was
+/// not captured, its panic in what its program wrote.
+fn output_of<'a>(test: &TestNote, failure: &'a Failure, panics: &ThreadPanics<'a>) -> &'a str {
+    match (crash_of(failure), &failure.stdout) {
+        (Some(crash), _) => &crash.prints,
+        (None, Some(stdout)) => stdout,
+        (None, None) => panics.of_thread(&test.name),
     }
 }
 

@@ -6,16 +6,16 @@
 //! | `time` (its `seconds`) | the run, each `suite` and each `case`, if it is known |
 //! | `name` | each `suite` and each `case` |
 //! | `class` | each `case`: the name of its suite, with `_` for each `.` |
-//! | `place` (its `file` and `line`) | each `case` that failed, if its place is known |
+//! | `place` (its `file` and `line`) | each `case` that failed or is an error of the compiler, if its place is known |
 //! | `flaky` (its `attempt`s) | each `case` that passed after attempts that failed |
-//! | `skipped_because` (its `message`) | each `case` that was skipped with a reason |
+//! | `skipped_because` (its `message`) | each `case` that was skipped with a reason, or stopped |
 //! | `skipped` | each other `case` that was skipped |
 //! | `failure` or `error` (`message`, `type`, `why`), `output` (its `text`) | each `case` that failed |
 
 use crate::report::escape::{line, name, text, whole_text};
 use crate::report::model::{
-    CaseModel, FailedModel, FailedResult, ProblemModel, ReportModel, SuiteModel, TestKind,
-    TestModel,
+    CaseModel, FailedModel, FailedResult, PlaceModel, ProblemModel, ReportModel, SuiteModel,
+    TestKind, TestModel,
 };
 use crate::report::output::{Document, Template};
 use crate::report::values::Values;
@@ -59,7 +59,7 @@ impl Counts {
                 CaseModel::Problem(_) => counts.errors += 1,
                 CaseModel::Test(test) => match &test.kind {
                     TestKind::Passed => {}
-                    TestKind::Skipped(_) => counts.skipped += 1,
+                    TestKind::Skipped(_) | TestKind::Stopped(_) => counts.skipped += 1,
                     TestKind::Failed(failed) if failed.result.is_error() => counts.errors += 1,
                     TestKind::Failed(_) => counts.failures += 1,
                 },
@@ -161,16 +161,16 @@ fn test_values(test: TestModel, class: &str) -> Values {
             "skipped_because",
             Values::of("message", whole_text(&reason)),
         ),
+        TestKind::Stopped(words) => {
+            values.item("skipped_because", Values::of("message", text(&words)))
+        }
         TestKind::Failed(failed) => with_failure(values, &failed),
     }
 }
 
 /// Returns values with the place of a failure, why the test failed, and its output.
 fn with_failure(values: Values, failed: &FailedModel) -> Values {
-    let place = failed
-        .place
-        .as_ref()
-        .map(|place| Values::of("file", line(&place.file)).text("line", &place.line));
+    let place = failed.place.as_ref().map(place_values);
     let list = if failed.result.is_error() {
         "error"
     } else {
@@ -189,6 +189,11 @@ fn with_failure(values: Values, failed: &FailedModel) -> Values {
         .some("output", output)
 }
 
+/// Returns the values of a place.
+fn place_values(place: &PlaceModel) -> Values {
+    Values::of("file", line(&place.file)).text("line", &place.line)
+}
+
 /// Returns the test case of a problem. Its line is its name. Its text is what explains it or, if nothing does, the line
 /// again, because some readers show only the text of an error.
 fn problem_values(problem: &ProblemModel) -> Values {
@@ -198,6 +203,7 @@ fn problem_values(problem: &ProblemModel) -> Values {
         .text("why", why);
     Values::of("name", &problem.line)
         .text("class", OWN_NAME)
+        .some("place", problem.place().map(place_values))
         .item("error", error)
 }
 

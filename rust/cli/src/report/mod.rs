@@ -7,15 +7,19 @@
 //! | from | by | to |
 //! |---|---|---|
 //! | a note of the run | `entry`, with `failure` (why a test failed), `problem` and `limit` (how much is shown) | an entry, which all forms take |
+//! | a failed build | `build`, `problem` | entries |
 //! | entries | `text`, `annotations` | text, through the proved type `ReportText` |
 //! | entries | `model` | one model of the finished report, which is JSON by its derives |
 //! | the model | `values`, `junit` | a page, a summary and JUnit's XML, through the proved templates |
 //!
+//! `program_lines` has what a report needs of lines of programs, and `held` the notes that wait for the end of a program.
 //! `output` has the only types that standard output takes. `escape` shows control characters as escapes such as
 //! `\u{1b}`, and so does the type `ReportText` with what was not escaped before.
 
 pub mod advice;
 mod annotations;
+pub mod build;
+mod ends;
 mod entry;
 mod escape;
 #[cfg(test)]
@@ -23,6 +27,7 @@ mod escape_tests;
 mod explanation;
 mod failure;
 pub mod fault;
+mod held;
 mod junit;
 mod levels;
 mod limit;
@@ -33,25 +38,34 @@ pub mod options;
 mod output;
 mod place;
 mod problem;
+mod program_lines;
 mod short;
 mod slowest;
+mod stopped;
 mod text;
+mod thread_panic;
 mod values;
 mod whole_output;
 mod words;
 
 use crate::report::advice::Advice;
-use crate::report::annotations::{Annotation, push_failed_name, push_notice};
+use crate::report::annotations::{Annotation, push_build_notice, push_failed_name, push_notice};
+use crate::report::build::FailedBuild;
 use crate::report::entry::Entry;
 use crate::report::fault::Fault;
+use crate::report::held::HeldNotes;
 use crate::report::model::{ModelBuilder, ReportModel, Wanted};
 use crate::report::options::Options;
 use crate::report::output::Text;
+use crate::report::problem::Problem;
+use crate::report::program_lines::ProgramLines;
+use crate::report::stopped::StoppedTests;
 use crate::report::text::TextForm;
+use crate::report::thread_panic::ThreadPanics;
 use crate::report::values::{page, summary};
-use deodarsieve::CancelReason;
+use deodarsieve::{CancelReason, RunOutcome};
 use deodarsieve_run::{
-    CommandEnd, Disagreement, Finished, Line, Note, RunEnd, SuiteNames, TestRun,
+    CommandEnd, Disagreement, Event, Finished, Line, Note, ProgramRun, RunEnd, SuiteNames, TestRun,
 };
 use std::collections::VecDeque;
 use std::io::{self, Write};
@@ -125,7 +139,13 @@ pub struct Ended {
 
 /// A report, which is written while its run is read.
 pub struct Report {
-    run: TestRun,
+    run: ProgramRun,
+
+    /// What lines of programs tell beside what they make known of the run.
+    programs: ProgramLines,
+
+    /// The notes that wait for the end of the program that runs.
+    held: HeldNotes,
     options: Options,
     format: Format,
     files: Files,
@@ -138,6 +158,15 @@ pub struct Report {
 
     /// What documents and JSON have, if there are any.
     model: Option<ModelBuilder>,
+
+    /// The build of the tests, if it failed.
+    build: Option<FailedBuild>,
+
+    /// True if the text names a test when it has run for a minute, as it does in the run of a command.
+    names_hung_tests: bool,
+
+    /// True if the run is the output of a command that writes no lines of programs.
+    is_command: bool,
 }
 
 impl Report {
@@ -159,25 +188,31 @@ impl Report {
         };
         let has_model = wanted.all_tests || wanted.page || wanted.summary;
         Report {
-            run: TestRun::with_file_names(slow, file_names),
+            run: ProgramRun::new(TestRun::with_file_names(slow, file_names)),
+            programs: ProgramLines::default(),
+            held: HeldNotes::default(),
             options,
             format,
             files,
             text: Text::new(options.raw && has_text),
             form: has_text.then(|| TextForm::new(options)),
             model: has_model.then(|| ModelBuilder::new(wanted)),
+            build: None,
+            names_hung_tests: false,
+            is_command: false,
         }
     }
 
     /// Returns the run, up to the line that was taken last.
     pub fn run(&self) -> &TestRun {
-        &self.run
+        self.run.run()
     }
 
     /// Notes that the output of a command is read next. Call it before the first line of the output, and
     /// `finish` after the last one. If `names` has a name for the path in a heading, the suites after the heading have this name.
     pub fn start_command(&mut self, names: SuiteNames) {
         self.run.on_command_started(names);
+        self.is_command = true;
     }
 
     /// Takes the advice for the case that no line of the command is one of a harness.
@@ -187,10 +222,29 @@ impl Report {
         }
     }
 
+    /// Notes whether the errors of the compiler are on standard error. Then the text leaves them out.
+    pub fn set_errors_are_passed_on(&mut self, are_passed_on: bool) {
+        if let Some(form) = &mut self.form {
+            form.set_errors_are_passed_on(are_passed_on);
+        }
+    }
+
+    /// Notes that nothing else shows which tests run. Then the text names each test of a command that has run for a minute.
+    pub fn name_hung_tests(&mut self) {
+        self.names_hung_tests = true;
+    }
+
+    /// Notes that the tests could not be built, if no line of the run says so. Why is reported at the end, in place of how
+    /// the command ended.
+    pub fn fail_build(&mut self, build: FailedBuild) {
+        self.build = Some(build);
+    }
+
     /// Notes that the run is cancelled for this reason. Of the tests that become known from now on, the text shows as
     /// much as the levels of the layer show for this reason.
     pub fn cancel(&mut self, reason: CancelReason) {
         self.run.on_cancelled(reason);
+        self.programs.cancel(reason);
     }
 
     /// Takes a line of the run, without its line feed, and writes what it makes known. What of the line is no event is
@@ -203,22 +257,45 @@ impl Report {
         output: &mut impl Write,
         others: &mut impl Write,
     ) -> Result<(), Fault> {
-        let notes = self.notes_of(bytes, others)?;
-        self.show(&notes, output)
-    }
-
-    /// Takes a line, and returns what it makes known, in the order of a report.
-    fn notes_of(&mut self, bytes: &[u8], others: &mut impl Write) -> Result<Vec<Note>, Fault> {
         let line = Line::read(bytes);
-        if let Some(size) = line.rest() {
-            let mut rest = bytes[..size].to_vec();
-            rest.push(b'\n');
-            // The writer remembers a failure.
-            let _ = others.write_all(&rest);
+        if self.programs.ends_before(&line) {
+            self.end_file(output)?;
+        }
+        let ended = self.programs.on_line(&line);
+        if !self.programs.on_message(bytes) {
+            pass_on(&line, bytes, others);
+        }
+        if let Event::TestSlow { name } = line.event() {
+            self.tell_hung(name);
         }
         let mut notes = self.run.on_line(&line)?;
         notes.sort_by_key(comes_last);
-        Ok(notes)
+        self.tell_own_harness(ended);
+        let released = self.held.released_by(&line);
+        self.show(&released.notes, &released.stderr, output)?;
+        if self.programs.program().is_some() {
+            notes = self.held.keep(notes);
+        }
+        self.show(&notes, "", output)
+    }
+
+    /// Tells in the text for people that a test has run for a minute, if nothing else shows that.
+    fn tell_hung(&mut self, test: &str) {
+        let program = self.programs.program();
+        let is_of_command = self.is_command || program.is_some();
+        if let Some(form) = &self.form
+            && self.names_hung_tests
+            && is_of_command
+        {
+            form.on_hung(program, test, &mut self.text);
+        }
+    }
+
+    /// Tells in the text for people that a program has its own harness, if one does.
+    fn tell_own_harness(&mut self, program: Option<String>) {
+        if let (Some(program), Some(form)) = (program, &self.form) {
+            form.on_own_harness(&program, &mut self.text);
+        }
     }
 
     /// Takes the end of a file of the run that is not the last one, and writes what it makes known.
@@ -226,7 +303,27 @@ impl Report {
     /// Fails if `output` does, or if a number of the run does not fit.
     pub fn end_file(&mut self, output: &mut impl Write) -> Result<(), Fault> {
         let notes = self.run.end_file()?;
-        self.show_parts(notes, output)
+        self.show_end_of_file(notes, output)?;
+        Ok(())
+    }
+
+    /// Writes what the end of a file makes known. Returns true if the build of its tests failed.
+    fn show_end_of_file(
+        &mut self,
+        mut notes: Vec<Note>,
+        output: &mut impl Write,
+    ) -> Result<bool, Fault> {
+        let told = self.programs.end_file(&notes);
+        self.tell_own_harness(told.own_harness);
+        let released = self.held.release();
+        self.show(&released.notes, &released.stderr, output)?;
+        let build = self.build.take().or(told.build);
+        if let Some(build) = &build {
+            self.show_build(build, output)?;
+            notes.retain(|note| !is_said_by_build(note));
+        }
+        self.show_parts(notes, output)?;
+        Ok(build.is_some())
     }
 
     /// Takes the end of the last file, and how the command ended if its output was read. Writes what this makes known, and
@@ -238,25 +335,17 @@ impl Report {
         command: Option<CommandEnd>,
         output: &mut impl Write,
     ) -> Result<Ended, Fault> {
-        let has_events = self.run.has_suite() || self.run.tests_started() > 0;
+        let has_events = self.run().has_suite() || self.run().tests_started() > 0;
         let has_ended = matches!(
             command,
             Some(CommandEnd::Status { .. } | CommandEnd::Signal { .. })
         );
         let Finished { notes, end, status } =
             self.run.finish(command, self.options.no_tests_pass)?;
-        self.show_parts(notes, output)?;
-        let form = self.form;
-        let texts = form.map(|form| form.on_end(&end, has_ended && !has_events));
-        let mut texts = texts.unwrap_or_default();
-        if matches!(
-            self.format,
-            Format::Annotated { .. } | Format::Github { .. }
-        ) {
-            let mut notice = Text::new(false);
-            push_notice(&end, &mut notice);
-            texts.push(notice);
-        }
+        let is_build = self.show_end_of_file(notes, output)? && !has_events;
+        self.show_cancelled(&end, output)?;
+        let lacks_events = has_ended && !has_events;
+        let mut texts = self.end_texts(&end, is_build, lacks_events);
         write_texts(&mut texts, output)?;
         let mut files = FileTexts::default();
         if let Some(model) = self.model {
@@ -271,21 +360,85 @@ impl Report {
         })
     }
 
+    /// Writes why the run was cancelled, if that is its outcome.
+    fn show_cancelled(&mut self, end: &RunEnd, output: &mut impl Write) -> Result<(), Fault> {
+        match (end.outcome, self.programs.cancelled()) {
+            (RunOutcome::Cancelled { .. }, Some(reason)) => {
+                let problem = Problem::of_cancelled(reason);
+                self.show_entries([Entry::Problem(problem)].into_iter(), output)
+            }
+            _ => Ok(()),
+        }
+    }
+
+    /// Returns the end of the text and of the annotations. `is_build` is true if the tests could not be built, and
+    /// `lacks_events` if a command wrote no line of a harness.
+    fn end_texts(&mut self, end: &RunEnd, is_build: bool, lacks_events: bool) -> Vec<Text> {
+        let mut texts = match self.form.take() {
+            Some(form) if is_build => form.on_build_end(end),
+            Some(form) => form.on_end(end, lacks_events),
+            None => Vec::new(),
+        };
+        if matches!(
+            self.format,
+            Format::Annotated { .. } | Format::Github { .. }
+        ) {
+            let mut notice = Text::new(false);
+            if is_build {
+                push_build_notice(end, &mut notice);
+            } else {
+                push_notice(end, &mut notice);
+            }
+            texts.push(notice);
+        }
+        texts
+    }
+
     /// Writes what the end of a file makes known, part after part. The notes of many crashed tests take much memory, so
     /// they are dropped then.
     fn show_parts(&mut self, notes: Vec<Note>, output: &mut impl Write) -> Result<(), Fault> {
         for part in notes.split_inclusive(ends_part) {
-            self.show(part, output)?;
+            self.show(part, "", output)?;
         }
         Ok(())
     }
 
-    /// Writes what notes make known at once, and flushes the output if there is something: the text of each note, and
+    /// Writes why a build failed: each target that does not compile and its errors, or else what cargo says.
+    fn show_build(&mut self, build: &FailedBuild, output: &mut impl Write) -> Result<(), Fault> {
+        let options = self.options;
+        if let Some(end) = build.end.as_ref().filter(|_| !build.messages.have_errors()) {
+            let problem = Problem::of_failed_build(end, options.output);
+            return self.show_entries([Entry::Problem(problem)].into_iter(), output);
+        }
+        for target in &build.messages.failed_targets() {
+            let errors = target.errors.iter().map(|error| {
+                let problem = Problem::of_compiler_error(&target.name, error, options);
+                Entry::CompilerError(problem)
+            });
+            let entries = [Entry::FailedTarget(target)].into_iter().chain(errors);
+            self.show_entries(entries, output)?;
+        }
+        Ok(())
+    }
+
+    /// Writes what notes make known at once. `stderr` is what their program wrote to standard error, if that is known.
+    fn show(&mut self, notes: &[Note], stderr: &str, output: &mut impl Write) -> Result<(), Fault> {
+        let (options, stopped) = (self.options, StoppedTests::of(notes));
+        let panics = ThreadPanics::of(stderr);
+        let entries = notes.iter();
+        let entries = entries.filter_map(|note| Entry::of(note, &stopped, &panics, options));
+        self.show_entries(entries, output)
+    }
+
+    /// Writes what entries make known at once, and flushes the output if there is something: the text of each entry, and
     /// then their annotations.
-    fn show(&mut self, notes: &[Note], output: &mut impl Write) -> Result<(), Fault> {
+    fn show_entries<'a>(
+        &mut self,
+        entries: impl Iterator<Item = Entry<'a>>,
+        output: &mut impl Write,
+    ) -> Result<(), Fault> {
         let mut annotations = Vec::new();
-        for note in notes {
-            let entry = Entry::of(note, self.options);
+        for entry in entries {
             if let Some(model) = &mut self.model {
                 model.on_entry(&entry);
             }
@@ -316,6 +469,16 @@ impl Report {
     }
 }
 
+/// Writes what of a line is no event to `others`.
+fn pass_on(line: &Line, bytes: &[u8], others: &mut impl Write) {
+    if let Some(size) = line.rest() {
+        let mut rest = bytes[..size].to_vec();
+        rest.push(b'\n');
+        // The writer remembers a failure.
+        let _ = others.write_all(&rest);
+    }
+}
+
 /// Writes texts one after another, by one write.
 fn write_texts(texts: &mut [Text], output: &mut impl Write) -> io::Result<()> {
     let mut all = Vec::new();
@@ -333,6 +496,14 @@ fn comes_last(note: &Note) -> bool {
     }
 }
 
+/// Returns true for a note of which a build that failed says more: no line is an event, or how the command ended.
+fn is_said_by_build(note: &Note) -> bool {
+    matches!(
+        note,
+        Note::Disagreement(Disagreement::NoEvent { .. } | Disagreement::Command(_))
+    )
+}
+
 /// Returns true for the last note of what the end of a file makes known at once: the numbers of a suite, a failure of
 /// cargo, a file without events, or a command that failed.
 fn ends_part(note: &Note) -> bool {
@@ -347,7 +518,9 @@ fn ends_part(note: &Note) -> bool {
             | Disagreement::StrayEnd { .. }
             | Disagreement::StraySuiteEnd { .. }
             | Disagreement::OutsideSuite { .. }
-            | Disagreement::Damaged { .. } => false,
+            | Disagreement::Damaged { .. }
+            | Disagreement::Program(_)
+            | Disagreement::Cancelled(_) => false,
         },
         Note::Test(_) | Note::Flaky(_) | Note::NotRun(_) => false,
     }

@@ -5,12 +5,13 @@ use crate::report::entry::Entry;
 use crate::report::escape::{text, whole_text};
 use crate::report::failure::{ShownFailure, WholeLines};
 use crate::report::numbers::Numbers;
-use crate::report::problem::{NO_TESTS, Problem, ProblemReason};
+use crate::report::problem::{NO_TESTS, Problem, ProblemReason, ProblemSource};
 use crate::report::slowest::Slowest;
+use crate::report::stopped::stopped_words;
 use crate::report::whole_output::{
     MOST_BYTES_OF_TEXT, OutputRoom, PAGE_ROOM, SUMMARY_ROOM, WholeOutput,
 };
-use crate::report::words::{outcome_text, seconds_text, shown_name, title};
+use crate::report::words::{outcome_text, seconds_text, shown_name, suite_of, title};
 use deodarsieve::RunOutcome;
 use deodarsieve_run::{FailureKind, RunEnd, SuiteNote, TestNote, TestOutcome};
 use serde::ser::{SerializeMap, Serializer};
@@ -99,6 +100,9 @@ pub(crate) enum TestKind {
 
     /// The test was skipped, for a reason if its line has one.
     Skipped(Option<String>),
+
+    /// The test was stopped. The text says why, and is not escaped.
+    Stopped(String),
     Failed(Box<FailedModel>),
 }
 
@@ -155,6 +159,21 @@ pub(crate) struct ProblemModel {
     pub(crate) line: String,
     #[serde(skip_serializing_if = "Option::is_none")]
     why: Option<ProblemReason>,
+
+    /// The source that the compiler reports an error in. Its texts are not escaped.
+    #[serde(flatten)]
+    source: Option<SourceModel>,
+}
+
+/// The source of an error of the compiler.
+#[derive(Serialize)]
+struct SourceModel {
+    target: String,
+    #[serde(skip_serializing_if = "Option::is_none")]
+    code: Option<String>,
+    message: String,
+    #[serde(skip_serializing_if = "Option::is_none")]
+    place: Option<PlaceModel>,
 }
 
 /// A test that passed after several attempts.
@@ -188,13 +207,14 @@ impl Serialize for TestModel {
         match &self.kind {
             TestKind::Passed => members.serialize_entry("result", "passed")?,
             TestKind::Skipped(_) => members.serialize_entry("result", "skipped")?,
+            TestKind::Stopped(_) => members.serialize_entry("result", "stopped")?,
             TestKind::Failed(failed) => members.serialize_entry("result", &failed.result)?,
         }
         members.serialize_entry("attempts", &self.attempts)?;
         members.serialize_entry("slow", &self.slow)?;
         serialize_some(&mut members, "time", &self.time)?;
         match &self.kind {
-            TestKind::Passed => {}
+            TestKind::Passed | TestKind::Stopped(_) => {}
             TestKind::Skipped(reason) => serialize_some(&mut members, "reason", reason)?,
             TestKind::Failed(failed) => {
                 serialize_some(&mut members, "place", &failed.place)?;
@@ -319,10 +339,11 @@ impl ModelBuilder {
         match entry {
             Entry::Passed(test) => self.on_passed(test),
             Entry::Skipped(test) => self.on_skipped(test),
+            Entry::Stopped(test) => self.on_stopped(test),
             Entry::Failed(failure) => self.on_failed(failure),
-            Entry::Problem(problem) => self.on_problem(problem),
+            Entry::Problem(problem) | Entry::CompilerError(problem) => self.on_problem(problem),
             Entry::Suite(suite) => self.on_suite(suite),
-            Entry::Flaky(_) => {}
+            Entry::Flaky(_) | Entry::FailedTarget(_) => {}
         }
     }
 
@@ -346,7 +367,7 @@ impl ModelBuilder {
     fn on_skipped(&mut self, test: &TestNote) {
         let reason = match &test.outcome {
             TestOutcome::Skipped { reason } => reason.as_deref(),
-            TestOutcome::Passed { .. } | TestOutcome::Failed(_) => None,
+            TestOutcome::Passed { .. } | TestOutcome::Stopped | TestOutcome::Failed(_) => None,
         };
         if let Some(reason) = reason.filter(|_| self.wanted.page) {
             self.skips.push((title(test), whole_text(reason)));
@@ -355,6 +376,15 @@ impl ModelBuilder {
             let skipped = TestKind::Skipped(reason.map(str::to_string));
             let skipped = TestModel::of(test, skipped);
             self.add(test.suite.as_ref(), CaseModel::Test(skipped));
+        }
+    }
+
+    /// Keeps a stopped test.
+    fn on_stopped(&mut self, test: &TestNote) {
+        if self.wanted.all_tests {
+            let kind = TestKind::Stopped(stopped_words(suite_of(test), test));
+            let stopped = TestModel::of(test, kind);
+            self.add(test.suite.as_ref(), CaseModel::Test(stopped));
         }
     }
 
@@ -405,6 +435,7 @@ impl ModelBuilder {
             suite: problem.suite.cloned(),
             line: problem.line.clone(),
             why: problem.why.clone(),
+            source: problem.source.as_ref().map(SourceModel::of),
         });
     }
 
@@ -471,6 +502,23 @@ impl FailedResult {
     }
 }
 
+impl SourceModel {
+    /// Returns the source of an error of the compiler.
+    fn of(source: &ProblemSource<'_>) -> SourceModel {
+        let place = source.place().map(|place| PlaceModel {
+            file: place.file,
+            line: place.line.to_string(),
+            column: Some(place.column.to_string()),
+        });
+        SourceModel {
+            target: source.target.to_string(),
+            code: source.code.map(str::to_string),
+            message: source.message.to_string(),
+            place,
+        }
+    }
+}
+
 impl ProblemModel {
     /// Returns the problem that no test ran.
     fn no_tests() -> ProblemModel {
@@ -479,7 +527,13 @@ impl ProblemModel {
             suite: None,
             line: NO_TESTS.to_string(),
             why: None,
+            source: None,
         }
+    }
+
+    /// Returns the place of an error of the compiler, if the problem is one and has a place.
+    pub(crate) fn place(&self) -> Option<&PlaceModel> {
+        self.source.as_ref()?.place.as_ref()
     }
 
     /// Returns what explains the problem, if anything does. It is escaped.

@@ -1,11 +1,19 @@
-//! Problems of a run other than failed tests: contradictions, and suites whose tests were not all run.
+//! Problems of a run other than failed tests: contradictions, suites whose tests were not all run, errors of the compiler,
+//! and that the run was cancelled.
 
+use crate::cargo_message::SourcePlace;
+use crate::report::build::CompilerError;
+use crate::report::ends::{end_name, ended_how};
 use crate::report::escape::{line, name};
 use crate::report::explanation::Found;
 use crate::report::limit::{Limit, LongLines};
-use crate::report::lines::ten_written;
-use crate::report::options::OutputDisplay;
-use deodarsieve_run::{CargoReport, CommandEnd, Disagreement, NotRun, SaidNumbers, TestResult};
+use crate::report::lines::{first_line, ten_written};
+use crate::report::options::{Options, OutputDisplay};
+use crate::report::stopped::{StoppedTests, stopped_lines};
+use deodarsieve::CancelReason;
+use deodarsieve_run::{
+    CargoReport, CommandEnd, Disagreement, NotRun, ProgramFault, SaidNumbers, TestResult,
+};
 use serde::Serialize;
 use std::borrow::Cow;
 use std::rc::Rc;
@@ -16,12 +24,15 @@ pub(crate) const NO_TESTS: &str = "no test ran";
 /// The kind of a contradiction.
 pub(crate) const CONTRADICTION: &str = "disagreement";
 
-/// A contradiction, or a suite whose tests were not all run.
+/// The kind of an error of the compiler.
+const COMPILER_ERROR: &str = "compiler error";
+
+/// A contradiction, a suite whose tests were not all run, an error of the compiler, or that the run was cancelled.
 pub(crate) struct Problem<'a> {
     /// The name of the suite, or `None` if the problem names no suite.
     pub(crate) suite: Option<&'a Rc<String>>,
 
-    /// The kind: a contradiction, or `not run`.
+    /// The kind: a contradiction, `not run`, `cancelled`, or an error of the compiler.
     pub(crate) kind: &'static str,
 
     /// The line of the report. It is escaped.
@@ -30,8 +41,38 @@ pub(crate) struct Problem<'a> {
     /// What explains the problem, if anything does.
     pub(crate) why: Option<ProblemReason>,
 
+    /// True if the list at the end of the form for people has what explains the problem: tests that were stopped.
+    pub(crate) why_is_listed: bool,
+
     /// True if no line of a file is an event of a harness, or none before cargo said that tests failed.
     pub(crate) lacks_events: bool,
+
+    /// The source that the compiler reports an error in, if it does.
+    pub(crate) source: Option<ProblemSource<'a>>,
+}
+
+/// The source of an error of the compiler. Its texts are not escaped, except the name of the target.
+#[derive(Clone, Copy)]
+pub(crate) struct ProblemSource<'a> {
+    /// The target, such as `tracker (lib test)`.
+    pub(crate) target: &'a str,
+
+    /// The code of the error, or the name of the lint.
+    pub(crate) code: Option<&'a str>,
+    pub(crate) message: &'a str,
+    error: &'a CompilerError,
+}
+
+impl ProblemSource<'_> {
+    /// Returns the place of the error, if it has one.
+    pub(crate) fn place(&self) -> Option<SourcePlace> {
+        self.error.diagnostic().place()
+    }
+
+    /// Returns the whole text of the error, if there is one.
+    pub(crate) fn text(&self) -> Option<String> {
+        self.error.text()
+    }
 }
 
 /// What explains a problem. As JSON it is a text.
@@ -61,47 +102,153 @@ impl ProblemReason {
 }
 
 impl<'a> Problem<'a> {
-    /// Returns the problem that a contradiction is. `output` says how much is shown of what explains it.
-    pub(crate) fn of_disagreement(
-        disagreement: &'a Disagreement,
-        output: OutputDisplay,
-    ) -> Problem<'a> {
-        let (suite, why, lacks_events) = match disagreement {
-            Disagreement::EndedEarly { suite } | Disagreement::LastLine { suite, .. } => {
-                (Some(suite), None, false)
-            }
-            Disagreement::Cargo(report) => (None, cargo_why(report), report.lacks_events),
-            Disagreement::NoEvent { .. } => (None, None, true),
-            Disagreement::StrayEnd { .. }
-            | Disagreement::StraySuiteEnd { .. }
-            | Disagreement::OutsideSuite { .. }
-            | Disagreement::Damaged { .. }
-            | Disagreement::Command(_) => (None, None, false),
-        };
+    /// Returns a problem with this line that nothing explains.
+    fn new(suite: Option<&'a Rc<String>>, kind: &'static str, line: String) -> Problem<'a> {
         Problem {
             suite,
-            kind: CONTRADICTION,
-            line: disagreement_line(disagreement),
+            kind,
+            line,
+            why: None,
+            why_is_listed: false,
+            lacks_events: false,
+            source: None,
+        }
+    }
+
+    /// Adds what explains the problem, if anything does. `output` says how much of it is shown.
+    fn with_why(self, why: Option<String>, output: OutputDisplay) -> Problem<'a> {
+        Problem {
             why: why.map(|text| ProblemReason {
                 text,
                 long_lines: LongLines::of(output),
             }),
-            lacks_events,
+            ..self
         }
     }
 
-    /// Returns the problem that some tests of a suite were not run.
-    pub(crate) fn of_not_run(not_run: &'a NotRun) -> Problem<'a> {
-        let (suite, count) = (name(&not_run.suite), not_run.not_run);
-        let initial = not_run.initial_run_count;
+    /// Adds which tests of a suite, or of none, were stopped. Those of a cancelled run are in the list of the form for
+    /// people.
+    fn with_stopped(
+        self,
+        suite: Option<&str>,
+        stopped: &StoppedTests<'_>,
+        output: OutputDisplay,
+    ) -> Problem<'a> {
+        let tests = stopped.of_suite(suite);
         Problem {
-            suite: Some(&not_run.suite),
-            kind: "not run",
-            line: format!("{suite}: {count} of {initial} tests were not run"),
-            why: None,
-            lacks_events: false,
+            why_is_listed: tests.iter().any(|test| test.cancel.is_some()),
+            ..self.with_why(stopped_lines(suite, tests), output)
         }
     }
+
+    /// Returns the problem that a contradiction is. `stopped` are tests that became known as stopped at the same time.
+    /// `output` says how much is shown of what explains it.
+    pub(crate) fn of_disagreement(
+        disagreement: &'a Disagreement,
+        stopped: &StoppedTests<'_>,
+        output: OutputDisplay,
+    ) -> Problem<'a> {
+        let problem = Problem::new(None, CONTRADICTION, disagreement_line(disagreement));
+        match disagreement {
+            Disagreement::EndedEarly { suite, .. } | Disagreement::LastLine { suite, .. } => {
+                Problem {
+                    suite: Some(suite),
+                    ..problem
+                }
+            }
+            Disagreement::Cargo(report) => Problem {
+                lacks_events: report.lacks_events,
+                ..problem.with_why(cargo_why(report), output)
+            },
+            Disagreement::NoEvent { .. } => Problem {
+                lacks_events: true,
+                ..problem
+            },
+            Disagreement::OutsideSuite { .. } => problem.with_stopped(None, stopped, output),
+            Disagreement::Command(CommandEnd::Error { words, .. }) => {
+                problem.with_why(rest_of_error(words), output)
+            }
+            Disagreement::StrayEnd { .. }
+            | Disagreement::StraySuiteEnd { .. }
+            | Disagreement::Damaged { .. }
+            | Disagreement::Command(_)
+            | Disagreement::Program(_)
+            | Disagreement::Cancelled(_) => problem,
+        }
+    }
+
+    /// Returns the problem that a run was cancelled.
+    pub(crate) fn of_cancelled(reason: CancelReason) -> Problem<'a> {
+        Problem::new(None, "cancelled", cancelled_line(reason))
+    }
+
+    /// Returns the problem that an error of the compiler in this target is. Of the options it uses only `limit` and
+    /// `output`.
+    pub(crate) fn of_compiler_error(
+        target: &'a str,
+        error: &'a CompilerError,
+        options: Options,
+    ) -> Problem<'a> {
+        let why = error.text().map(|text| ProblemReason {
+            text: Limit::of(options).shown(&text).into_owned(),
+            long_lines: LongLines::of(options.output),
+        });
+        let diagnostic = error.diagnostic();
+        Problem {
+            why,
+            source: Some(ProblemSource {
+                target,
+                code: diagnostic.code(),
+                message: &diagnostic.message,
+                error,
+            }),
+            ..Problem::new(None, COMPILER_ERROR, error.line(target))
+        }
+    }
+
+    /// Returns the problem that a build without errors of the compiler ended in this way: cargo's own error or, if that is
+    /// not known, how cargo ended.
+    pub(crate) fn of_failed_build(end: &CommandEnd, output: OutputDisplay) -> Problem<'a> {
+        match end {
+            CommandEnd::Error { words, .. } => Problem::new(None, CONTRADICTION, error_line(words))
+                .with_why(rest_of_error(words), output),
+            CommandEnd::NotStarted { .. }
+            | CommandEnd::Signal { .. }
+            | CommandEnd::Status { .. } => {
+                let line = format!("cargo {}", end_text(end));
+                Problem::new(None, CONTRADICTION, line)
+            }
+        }
+    }
+
+    /// Returns the problem that some tests of a suite were not run. `stopped` are tests that became known as stopped at
+    /// the same time. `output` says how much of their names is shown.
+    pub(crate) fn of_not_run(
+        not_run: &'a NotRun,
+        stopped: &StoppedTests<'_>,
+        output: OutputDisplay,
+    ) -> Problem<'a> {
+        let (suite, count) = (&not_run.suite, not_run.not_run);
+        let (shown, initial) = (name(suite), not_run.initial_run_count);
+        let line = format!("{shown}: {count} of {initial} tests were not run");
+        Problem::new(Some(suite), "not run", line).with_stopped(Some(suite), stopped, output)
+    }
+}
+
+/// Returns the line of an error of cargo: its first line.
+fn error_line(error: &str) -> String {
+    format!("cargo: {}", line(first_line(error).0))
+}
+
+/// Returns the lines of an error of cargo after its first one, or `None` if there are none.
+fn rest_of_error(error: &str) -> Option<String> {
+    let rest = first_line(error).1.trim_matches('\n');
+    (!rest.is_empty()).then(|| rest.to_string())
+}
+
+/// Returns the line that says why a run was cancelled.
+fn cancelled_line(reason: CancelReason) -> String {
+    format!("the run was cancelled ({reason:?})")
 }
 
 /// Returns what explains a failure of cargo: the explanation in the prints before it, or else ten lines of them, or
@@ -117,18 +264,20 @@ fn cargo_why(report: &CargoReport) -> Option<String> {
 /// Returns the line of a contradiction.
 fn disagreement_line(disagreement: &Disagreement) -> String {
     match disagreement {
-        Disagreement::EndedEarly { suite } => format!("{} ended early", name(suite)),
+        Disagreement::EndedEarly { suite, end } => {
+            let how = end.map(|end| format!(", {}", ended_how(end)));
+            format!("{} ended early{}", name(suite), how.unwrap_or_default())
+        }
         Disagreement::LastLine {
             suite,
             said,
             passed,
             failed,
-        } => {
-            let (suite, said) = (name(suite), said_numbers(said));
-            format!(
-                "{suite}: its last line {said}, but {passed} of its tests passed and {failed} failed"
-            )
-        }
+        } => format!(
+            "{}: its last line {}, but {passed} of its tests passed and {failed} failed",
+            name(suite),
+            said_numbers(said)
+        ),
         Disagreement::StrayEnd { name: test, result } => {
             let (test, result) = (name(test), result_word(*result));
             format!("{test} ended {result}, and had not started")
@@ -136,14 +285,7 @@ fn disagreement_line(disagreement: &Disagreement) -> String {
         Disagreement::StraySuiteEnd {
             key,
             failed_verdict,
-        } => {
-            let key = key
-                .as_deref()
-                .map(|key| name(key) + " ")
-                .unwrap_or_default();
-            let verdict = verdict(*failed_verdict);
-            format!("a suite ended that had not started: {key}{verdict}")
-        }
+        } => stray_suite_line(key.as_deref(), *failed_verdict),
         Disagreement::OutsideSuite { started } => {
             format!("{started} tests started outside of a suite")
         }
@@ -158,16 +300,57 @@ fn disagreement_line(disagreement: &Disagreement) -> String {
                 .map_or(Cow::from("the input"), |file| name(file).into());
             format!("no line of {file} is of a test run")
         }
-        Disagreement::Command(end) => format!("the command {}", command_end(end)),
+        Disagreement::Command(end) => command_line(end),
+        Disagreement::Program(fault) => fault_line(fault),
+        Disagreement::Cancelled(reason) => cancelled_line(*reason),
     }
 }
 
-/// Returns how a command ended that failed.
-fn command_end(end: &CommandEnd) -> String {
+/// Returns the line of a suite that ended and had not started.
+fn stray_suite_line(key: Option<&str>, failed_verdict: bool) -> String {
+    let key = key.map(|key| name(key) + " ").unwrap_or_default();
+    let verdict = verdict(failed_verdict);
+    format!("a suite ended that had not started: {key}{verdict}")
+}
+
+/// Returns the line of a command that failed.
+fn command_line(end: &CommandEnd) -> String {
+    match end {
+        CommandEnd::Error { words, .. } => error_line(words),
+        CommandEnd::Status { .. } => {
+            format!("the command {}, and no line says why", end_text(end))
+        }
+        CommandEnd::NotStarted { .. } | CommandEnd::Signal { .. } => {
+            format!("the command {}", end_text(end))
+        }
+    }
+}
+
+/// Returns how a command ended.
+fn end_text(end: &CommandEnd) -> String {
     match end {
         CommandEnd::NotStarted { error } => format!("could not be started: {}", line(error)),
         CommandEnd::Signal { number } => format!("ended by signal {number}"),
-        CommandEnd::Status { code } => format!("ended with status {code}, and no line says why"),
+        CommandEnd::Status { code } | CommandEnd::Error { code, .. } => {
+            format!("ended with status {code}")
+        }
+    }
+}
+
+/// Returns the line of what is wrong with a program, or with the lines of programs.
+fn fault_line(fault: &ProgramFault) -> String {
+    match fault {
+        ProgramFault::Unexplained { program, end } => {
+            format!("{} ended {}", name(program), ended_how(*end))
+        }
+        ProgramFault::NoTests { program } => format!("{} ended and ran no tests", name(program)),
+        ProgramFault::NoEnd { program } => format!("{} did not end", name(program)),
+        ProgramFault::NotStarted { end } => {
+            format!("a program ended that had not started: {}", end_name(*end))
+        }
+        ProgramFault::CutOff => {
+            "the run was cut off: no line says how its command ended".to_string()
+        }
     }
 }
 

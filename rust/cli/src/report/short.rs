@@ -1,5 +1,6 @@
 //! The short reason: one line that says why a test failed.
 
+use crate::report::ends::crash_end;
 use crate::report::explanation::Found;
 use crate::report::failure::{crash_words, reason_of};
 use crate::report::lines::{first_line, last_written, ten_written};
@@ -36,7 +37,8 @@ pub(crate) fn short_reason(test: &TestNote, failure: &Failure, found: &Found<'_>
 /// it have the head of a panic, what the first one says.
 fn crash_reason(crash: &Crash, found: &Found<'_>, documented: Option<Place<'_>>) -> String {
     let mut reason = crash_words(crash);
-    if let Some(end) = crash.cause.as_deref().and_then(end_in) {
+    let end = crash.end.map(crash_end);
+    if let Some(end) = end.or_else(|| end_in(crash.cause.as_deref()?)) {
         reason.push_str(&format!(" ({end})"));
     }
     if let Some(head) = found.first {

@@ -1,7 +1,9 @@
 //! The text for people, with a list of tests at its end.
 
 use crate::report::advice::Advice;
+use crate::report::build::FailedTarget;
 use crate::report::entry::Entry;
+use crate::report::escape::name;
 use crate::report::failure::ShownFailure;
 use crate::report::levels::{final_level, finished_output, has_line, skipped_output};
 use crate::report::limit::Limit;
@@ -10,9 +12,9 @@ use crate::report::options::Options;
 use crate::report::output::Text;
 use crate::report::problem::{CONTRADICTION, Problem};
 use crate::report::slowest::Slowest;
-use crate::report::words::{failed_status, outcome_text, push_time_and_title, summary};
+use crate::report::words::{failed_status, outcome_text, push_time_and_title, push_title, summary};
 use crate::report_text::Style;
-use deodarsieve::{FinalStatusLevel, OutputOnTestFinished, OutputStoreFinal};
+use deodarsieve::{FinalStatusLevel, OutputOnTestFinished, OutputStoreFinal, StatusLevel};
 use deodarsieve_run::{Finish, RunEnd, TestNote, TestOutcome};
 use std::collections::BTreeMap;
 use std::iter::repeat_n;
@@ -36,11 +38,14 @@ pub(crate) struct TextForm {
 
     /// The advice if there are no lines of a harness.
     advice: Advice,
+
+    /// True if the errors of the compiler are on standard error.
+    errors_are_passed_on: bool,
     list: List,
 }
 
 /// The list at the end: the tests that are stored for it, in the order of their levels, and the slowest. Contradictions
-/// are among the failed tests.
+/// and stopped tests are among the failed tests.
 struct List {
     passed: Text,
     skipped: Text,
@@ -98,6 +103,7 @@ impl TextForm {
         TextForm {
             options,
             advice: Advice::Input,
+            errors_are_passed_on: false,
             list: List::new(options),
         }
     }
@@ -107,6 +113,11 @@ impl TextForm {
         self.advice = advice;
     }
 
+    /// Takes whether the errors of the compiler are on standard error. Then they are left out.
+    pub(crate) fn set_errors_are_passed_on(&mut self, are_passed_on: bool) {
+        self.errors_are_passed_on = are_passed_on;
+    }
+
     /// Appends the text of an entry, and keeps what the list has of it.
     pub(crate) fn on_entry(&mut self, entry: &Entry<'_>, text: &mut Text) {
         match entry {
@@ -114,9 +125,16 @@ impl TextForm {
             Entry::Passed(test) => self.on_passed(test, text),
             Entry::Flaky(test) => push_passed(test, self.options, text),
             Entry::Skipped(test) => self.on_skipped(test, text),
+            Entry::Stopped(test) => self.on_stopped(test),
             Entry::Problem(problem) => self.on_problem(problem, text),
-            Entry::Suite(_) => {}
+            Entry::FailedTarget(target) => self.on_failed_target(target, text),
+            Entry::Suite(_) | Entry::CompilerError(_) => {}
         }
+    }
+
+    /// Returns the end of the text of a run whose tests could not be built: the outcome.
+    pub(crate) fn on_build_end(&self, end: &RunEnd) -> Vec<Text> {
+        vec![self.outcome(end)]
     }
 
     /// Returns the end of the text: the summary, the list and the outcome. `lacks_events` is true if a command wrote no
@@ -127,8 +145,7 @@ impl TextForm {
             self.push_advice(&mut head);
         }
         head.push(&format!("------------\n     Summary {}\n", summary(end)));
-        let mut outcome = Text::new(self.options.raw);
-        outcome.push(&format!("outcome {}\n", outcome_text(end.outcome)));
+        let outcome = self.outcome(end);
         let list = self.list;
         let mut texts = vec![head, list.passed, list.skipped, list.slow];
         texts.extend(list.flaky.into_values());
@@ -138,11 +155,28 @@ impl TextForm {
         texts
     }
 
+    /// Returns the line of the outcome.
+    fn outcome(&self, end: &RunEnd) -> Text {
+        let mut outcome = Text::new(self.options.raw);
+        outcome.push(&format!("outcome {}\n", outcome_text(end.outcome)));
+        outcome
+    }
+
+    /// Appends the line of a target that does not compile and, if they are not on standard error, its errors.
+    fn on_failed_target(&self, target: &FailedTarget<'_>, text: &mut Text) {
+        text.push(&format!("{}\n", target.line()));
+        if !self.errors_are_passed_on {
+            for error in &target.errors {
+                text.push(&format!("    {}\n", error.line(&target.name)));
+            }
+        }
+    }
+
     /// Appends the line of a problem, under it what explains the problem, and how to get lines of a harness if there
     /// were none.
     fn push_problem(&mut self, problem: &Problem<'_>, text: &mut Text) {
         text.push(&format!("{}\n", problem.line));
-        if let Some(why) = &problem.why {
+        if let Some(why) = problem.why.as_ref().filter(|_| !problem.why_is_listed) {
             text.push_indented(&why.shown(), MARGIN);
         }
         if problem.lacks_events {
@@ -228,6 +262,34 @@ impl TextForm {
                 &mut self.list.skipped,
             );
         }
+    }
+
+    /// Takes a test that was stopped. If the run was cancelled, the list has it, if it has failed tests, and among them.
+    /// Otherwise the problem of its suite has it.
+    fn on_stopped(&mut self, test: &TestNote) {
+        let options = self.options;
+        if test.cancel.is_some() && options.final_status_level >= FinalStatusLevel::Fail {
+            let part = &mut self.list.failed;
+            push_line("STOPPED", test, STATUS_WIDTH, "\n", options, part);
+        }
+    }
+
+    /// Appends that a test of a program, if one is known, has run for a minute. Tests that are not to be shown when they end
+    /// are not named, either.
+    pub(crate) fn on_hung(&self, program: Option<&str>, test: &str, text: &mut Text) {
+        if self.options.status_level > StatusLevel::None {
+            let mut line = begun_line("SLOW", 0, self.options, text);
+            line.push_str("[> 60s] ");
+            push_title(&mut line, program, test);
+            line.push('\n');
+            text.push(&line);
+        }
+    }
+
+    /// Appends that a program has its own harness, and no report.
+    pub(crate) fn on_own_harness(&self, program: &str, text: &mut Text) {
+        let program = name(program);
+        text.push(&format!("{program} has its own harness, and no report\n"));
     }
 
     /// Takes a problem. The list has contradictions if it has failed tests, and among them.
@@ -330,6 +392,6 @@ fn passed_output(test: &TestNote) -> Option<&str> {
             let output = output.as_deref()?.trim_end();
             (!output.is_empty()).then_some(output)
         }
-        TestOutcome::Skipped { .. } | TestOutcome::Failed(_) => None,
+        TestOutcome::Skipped { .. } | TestOutcome::Stopped | TestOutcome::Failed(_) => None,
     }
 }

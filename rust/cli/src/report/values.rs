@@ -327,7 +327,7 @@ impl<'a> Failure<'a> {
                         time,
                         failed,
                     }),
-                    TestKind::Passed | TestKind::Skipped(_) => None,
+                    TestKind::Passed | TestKind::Skipped(_) | TestKind::Stopped(_) => None,
                 }
             }
             CaseModel::Problem(_) => None,

@@ -31,7 +31,7 @@ pub(crate) fn title(test: &TestNote) -> String {
 }
 
 /// Appends the name of a suite and the name of one of its tests.
-fn push_title(text: &mut String, suite: Option<&str>, test: &str) {
+pub(crate) fn push_title(text: &mut String, suite: Option<&str>, test: &str) {
     if let Some(suite) = suite {
         push_name(text, suite);
         text.push(' ');

@@ -1,18 +1,18 @@
 //! Runs the command of a run, and reads what it writes. Before `cargo test`, a cargo builds the tests and says which
 //! programs they are, so that the suites have names.
 
+mod build;
+
+pub(super) use self::build::Built;
 use super::{RunReader, unread};
-use crate::command::artifacts::Artifacts;
+use crate::command::artifacts::suite_names;
 use crate::command::end::end_of;
-use crate::command::hidden::HiddenStandIn;
-use crate::command::prepared::{Build, Prepared, prepare};
-use crate::command::repeated::Repeated;
+use crate::command::prepared::{Build, Prepared};
 use crate::command::running::{RunningCommand, not_waited};
 use crate::process_streams::{LOOK, ProcessStreams, Stream};
 use crate::program::Failure;
 use deodarsieve_run::CommandEnd;
 use deodarsieve_run::SuiteNames;
-use std::ffi::OsString;
 use std::io::{self, Write};
 use std::thread;
 use std::time::{Duration, Instant};
@@ -24,33 +24,36 @@ const STILL_RUNNING: &str =
 /// The time between two looks at a command that has closed its output and has not ended.
 const SHORT_LOOK: Duration = Duration::from_millis(5);
 
-/// A build of the tests of a command.
-struct Built {
-    /// The names of the suites.
-    names: SuiteNames,
-
-    /// What cargo wrote to standard error, in whole lines.
-    messages: Vec<u8>,
-
-    /// How cargo ended.
-    end: CommandEnd,
-}
-
 impl<W: Write> RunReader<'_, '_, W> {
-    /// Runs the command of the run, and reads what it writes. Returns how it ended.
-    pub(super) fn run_command(&mut self, words: &[OsString]) -> Result<CommandEnd, Failure> {
+    /// Runs the command of the run, and reads what it writes. Returns how it ended, unless a line of the run says so.
+    pub(super) fn run_command(
+        &mut self,
+        prepared: &Prepared,
+    ) -> Result<Option<CommandEnd>, Failure> {
         self.streams.others.are_wanted = self.pass_on.of_command();
         self.message = self.message.map(|_| STILL_RUNNING);
-        let prepared = prepare(words);
         if let Some(message) = prepared.message {
             self.streams.line.borrow_mut().say(message);
         }
         self.report.set_advice(prepared.advice.clone());
+        self.report
+            .set_errors_are_passed_on(self.pass_on.of_command());
+        match &prepared.stand_in {
+            Some(path) => {
+                self.run_with_stand_ins(prepared, path)?;
+                Ok(None)
+            }
+            None => Ok(Some(self.run_in_one_pipe(prepared)?)),
+        }
+    }
+
+    /// Runs a command without stand-ins. Both of its streams are one pipe.
+    fn run_in_one_pipe(&mut self, prepared: &Prepared) -> Result<CommandEnd, Failure> {
         let end = match &prepared.build {
-            Some(build) => self.build_and_run(&prepared, build)?,
+            Some(build) => self.build_and_run(prepared, build)?,
             None => {
                 self.report.start_command(SuiteNames::new());
-                self.run(&prepared)?
+                self.run(prepared)?
             }
         };
         self.note_cancel();
@@ -58,73 +61,36 @@ impl<W: Write> RunReader<'_, '_, W> {
         Ok(end)
     }
 
-    /// Builds the tests of a command and, if that succeeds, runs it. What the build writes is the beginning of the
-    /// command's output. Returns how the build or the run ended.
+    /// Builds the tests of a command and, if that succeeds, runs it. Returns how the build or the run ended.
     fn build_and_run(&mut self, prepared: &Prepared, build: &Build) -> Result<CommandEnd, Failure> {
-        let Built {
-            names,
-            messages,
-            end,
-        } = self.build(prepared, build)?;
+        let built = self.build(prepared, build)?;
+        let names = suite_names(&built.programs, &build.folder);
         self.report.start_command(names);
-        self.take_again(&messages)?;
-        if !matches!(end, CommandEnd::Status { code: 0 }) {
+        if let Some(end) = self.end_before_run(&built.end) {
+            self.fail_build(built);
             return Ok(end);
         }
-        // This signal did not reach the run.
-        if let Some(number) = self.interrupt.signal() {
-            return Ok(CommandEnd::Signal { number });
-        }
-        self.streams.others.repeated = Repeated::new(&messages);
+        self.streams.others.repeated = built.repeated(prepared.is_quiet());
         self.run(prepared)
     }
 
-    /// Builds the tests of a command, and passes cargo's messages on to standard error.
-    fn build(&mut self, prepared: &Prepared, build: &Build) -> Result<Built, Failure> {
-        let mut messages = Vec::new();
-        let started = RunningCommand::start_apart(&mut prepared.build_command(build));
-        let (mut command, output, errors) = match started {
-            Ok(started) => started,
-            Err(error) => {
-                return Ok(Built {
-                    names: SuiteNames::new(),
-                    messages,
-                    end: not_started(&error),
-                });
-            }
-        };
-        let artifacts = Artifacts::start(output, build.folder.clone()).map_err(unread)?;
-        let streams = ProcessStreams::start([(Stream::Error, Box::new(errors))]);
-        let mut streams = streams.map_err(unread)?;
-        self.read_output(&mut streams, &mut command, |reader, piece| {
-            messages.extend_from_slice(piece);
-            reader.write_on(piece);
-            Ok(())
-        })?;
-        if messages.last().is_some_and(|byte| *byte != b'\n') {
-            messages.push(b'\n');
-            self.write_on(b"\n");
+    /// Returns how a command ended that is not run after its build: as the build did, or by a signal that came meanwhile
+    /// and did not reach the run.
+    pub(super) fn end_before_run(&self, build: &CommandEnd) -> Option<CommandEnd> {
+        if !matches!(build, CommandEnd::Status { code: 0 }) {
+            return Some(build.clone());
         }
-        let end = self.wait_for(&mut command)?;
-        Ok(Built {
-            names: artifacts.names(),
-            messages,
-            end,
-        })
+        let number = self.interrupt.signal()?;
+        Some(CommandEnd::Signal { number })
     }
 
-    /// Writes bytes to standard error, if the lines of a command are passed on.
-    fn write_on(&mut self, bytes: &[u8]) {
-        // The writer remembers a failure.
-        let _ = self.streams.others.write_all(bytes);
-    }
-
-    /// Passes lines to the report that were passed on to standard error before.
-    fn take_again(&mut self, lines: &[u8]) -> Result<(), Failure> {
-        self.streams.others.are_wanted = false;
-        self.take_some(lines)?;
-        self.streams.others.are_wanted = self.pass_on.of_command();
-        Ok(())
+    /// Takes a build after which nothing is run. If it was not started or a signal has come, its end says why, unless the
+    /// compiler does.
+    fn fail_build(&mut self, built: Built) {
+        let has_ended = !matches!(built.end, CommandEnd::NotStarted { .. });
+        if built.messages.have_errors() || has_ended && self.interrupt.signal().is_none() {
+            self.report.fail_build(built.into_failed());
+        }
     }
 
     /// Runs the command, and passes what it writes to the report. Returns how it ended.
@@ -133,11 +99,9 @@ impl<W: Write> RunReader<'_, '_, W> {
             Ok((mut command, output)) => {
                 let streams = ProcessStreams::start([(Stream::Output, Box::new(output))]);
                 let mut streams = streams.map_err(unread)?;
-                let mut hidden = HiddenStandIn::new(prepared.stand_in.as_deref());
-                self.read_output(&mut streams, &mut command, |reader, piece| {
-                    reader.take_some(&hidden.shown(piece))
+                self.read_output(&mut streams, &mut command, |reader, _, piece| {
+                    reader.take_some(piece)
                 })?;
-                self.take_some(&hidden.rest())?;
                 self.wait_for(&mut command)
             }
             Err(error) => Ok(not_started(&error)),
@@ -153,16 +117,16 @@ impl<W: Write> RunReader<'_, '_, W> {
     }
 
     /// Reads what a command writes, until the pipe ends or the command is over, and takes each piece.
-    fn read_output(
+    pub(super) fn read_output(
         &mut self,
         streams: &mut ProcessStreams,
         command: &mut RunningCommand,
-        mut take: impl FnMut(&mut Self, &[u8]) -> Result<(), Failure>,
+        mut take: impl FnMut(&mut Self, Stream, &[u8]) -> Result<(), Failure>,
     ) -> Result<(), Failure> {
         while !streams.are_over(Instant::now()) {
             let wait = self.longest_wait().map_or(LOOK, |wait| wait.min(LOOK));
             match streams.next_piece(wait).map_err(unread)? {
-                Some((_, piece)) => take(self, &piece)?,
+                Some((stream, piece)) => take(self, stream, &piece)?,
                 None => self.say_once(),
             }
             self.pass_signal_on(command);
@@ -175,7 +139,7 @@ impl<W: Write> RunReader<'_, '_, W> {
     }
 
     /// Waits for the end of a command whose output has ended.
-    fn wait_for(&mut self, command: &mut RunningCommand) -> Result<CommandEnd, Failure> {
+    pub(super) fn wait_for(&mut self, command: &mut RunningCommand) -> Result<CommandEnd, Failure> {
         loop {
             if let Some(status) = command.status().map_err(not_waited)? {
                 return Ok(end_of(status));
@@ -196,7 +160,7 @@ impl<W: Write> RunReader<'_, '_, W> {
 }
 
 /// Returns the end of a command that could not be started.
-fn not_started(error: &io::Error) -> CommandEnd {
+pub(super) fn not_started(error: &io::Error) -> CommandEnd {
     CommandEnd::NotStarted {
         error: error.to_string(),
     }

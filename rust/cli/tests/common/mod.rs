@@ -40,6 +40,18 @@ pub fn command<A: AsRef<OsStr>>(program: &str, arguments: &[A]) -> Command {
     command
 }
 
+/// Gives the programs that are started from now on the default action of Ctrl-C. A shell ignores it for the tests if they
+/// run in the background, and they would inherit that.
+#[cfg(unix)]
+pub fn restore_interrupt() {
+    use signal_hook::consts::SIGINT;
+    use signal_hook::flag::register_conditional_default;
+    use std::sync::{Arc, atomic::AtomicBool};
+    // Ctrl-C still ends the tests.
+    let ends = Arc::new(AtomicBool::new(true));
+    register_conditional_default(SIGINT, ends).expect("a handler can be set");
+}
+
 /// A program that runs, with the ends of its pipes.
 pub struct Running {
     pub child: Child,

@@ -2,7 +2,7 @@
 
 use crate::facts::{
     Facts, Suite, escaped, failure_of, outcome, own_name, problem_line, seconds, shown, status_of,
-    suite_of, summary, title, without_returns,
+    stopped_lines, suite_of, summary, title, without_returns,
 };
 use crate::json::{Shown, ShownFailure};
 use crate::text::slowest_tests;
@@ -124,6 +124,12 @@ fn case_of(note: &Note, class: &str, notes: &Notes<'_>) -> Element {
                 None => skipped,
             }])
         }
+        TestOutcome::Stopped => {
+            let lines = stopped_lines(&[note]).expect("the test was stopped");
+            let words = lines.strip_prefix(own_name(test)).expect("it is named");
+            let skipped = Element::new("skipped");
+            case.elements([skipped.with("message", value(words.trim_start_matches(' ')))])
+        }
         TestOutcome::Failed(failure) => failed_case(case, failure, notes.failure(test)),
     }
 }
@@ -175,6 +181,9 @@ fn own_cases(facts: &Facts, notes: &Notes<'_>) -> Vec<Element> {
     let is_own = |note: &&Note| crate::facts::suite_of_problem(note).is_none();
     let own = facts.problems().map(|(note, _)| note).filter(is_own);
     let mut cases: Vec<_> = own.map(|note| case_of(note, "", notes)).collect();
+    if let Some(line) = facts.cancelled_line() {
+        cases.push(problem_case(&line, "cancelled", None));
+    }
     if outcome(&facts.end) == "no-tests-run" {
         cases.push(problem_case("no test ran", "no tests", None));
     }
@@ -219,6 +228,7 @@ pub fn check_junit(facts: &Facts, shown: &Shown, junit: &str) {
         facts.tests().count()
             + facts.problems().count()
             + usize::from(outcome(&facts.end) == "no-tests-run")
+            + usize::from(facts.cancelled_line().is_some())
     );
 }
 
@@ -239,9 +249,10 @@ fn document_summary(facts: &Facts) -> String {
 fn problems(facts: &Facts, shown: &Shown) -> Vec<(String, Option<String>)> {
     let own = facts.problems().zip(&shown.problems);
     let own = own.map(|((_, line), why)| (allowed(&line), why.as_deref().map(value)));
+    let cancelled = facts.cancelled_line().map(|line| (line, None));
     let no_tests = outcome(&facts.end) == "no-tests-run";
     let no_tests = no_tests.then(|| ("no test ran".to_string(), None));
-    no_tests.into_iter().chain(own).collect()
+    no_tests.into_iter().chain(own).chain(cancelled).collect()
 }
 
 /// Returns a time as a table has it.

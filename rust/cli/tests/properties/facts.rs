@@ -2,10 +2,12 @@
 //! names, times and contradictions are shown.
 
 use crate::SLOW;
+use deodarsieve::{CancelReason, RunOutcome};
 use deodarsieve_run::{
-    CommandEnd, Disagreement, Failure, FailureKind, Line, Note, RunEnd, SaidNumbers, TestNote,
-    TestOutcome, TestResult, TestRun,
+    CommandEnd, Disagreement, Event, Failure, FailureKind, Line, Note, ProgramEnd, ProgramFault,
+    ProgramLine, ProgramRun, RunEnd, SaidNumbers, TestNote, TestOutcome, TestResult, TestRun,
 };
+use std::collections::BTreeMap;
 
 /// The notes of a run, in the order in which a report shows them, and its end.
 pub struct Facts {
@@ -14,6 +16,29 @@ pub struct Facts {
 
     /// What of the lines is no event. A line feed follows each.
     pub others: Vec<u8>,
+
+    /// Why the run is cancelled, as its lines say.
+    cancelled: Option<CancelReason>,
+
+    /// The programs with their own harness that told of no test, each with the number of notes before its end.
+    pub without_report: Vec<(usize, String)>,
+
+    /// What the programs of failed tests without an output wrote to standard error, by the places of their notes.
+    stderr: BTreeMap<usize, String>,
+}
+
+/// What lines of programs tell beside notes.
+#[derive(Default)]
+struct Told {
+    /// The program with its own harness that runs.
+    program: Option<String>,
+    cancelled: Option<CancelReason>,
+
+    /// True if a program runs.
+    runs: bool,
+
+    /// The failed tests without an output of this program, and its suites that were over after one of them.
+    held: Vec<Note>,
 }
 
 /// The tests and problems of a suite, and its own note if the suite is over.
@@ -32,34 +57,80 @@ pub fn lines_of(file: &[u8]) -> impl Iterator<Item = &[u8]> {
 impl Facts {
     /// Returns what is known of the run of some files.
     pub fn of(files: &[Vec<u8>]) -> Facts {
-        let mut run = TestRun::new(SLOW);
+        let mut run = ProgramRun::new(TestRun::new(SLOW));
         let (mut notes, mut others) = (Vec::new(), Vec::new());
+        let (mut told, mut without_report) = (Told::default(), Vec::new());
+        let mut stderr = BTreeMap::new();
         for (place, file) in files.iter().enumerate() {
             if place > 0 {
+                without_report.extend(Some(notes.len()).zip(told.program.take()));
                 notes.append(&mut run.end_file().expect("the numbers fit"));
             }
+            let first = lines_of(file).next().map(Line::read);
+            let has_programs = first.is_some_and(|line| line.program().is_some());
             for bytes in lines_of(file) {
                 let line = Line::read(bytes);
                 if let Some(size) = line.rest() {
                     others.extend_from_slice(&bytes[..size]);
                     others.push(b'\n');
                 }
+                if has_programs {
+                    without_report.extend(Some(notes.len()).zip(told.on_line(&line)));
+                    release(&mut told, line.program(), &mut notes, &mut stderr);
+                }
                 let mut known = run.on_line(&line).expect("the numbers fit");
                 // Tests that were not run come after what the rest of the line says.
                 known.sort_by_key(|note| matches!(note, Note::NotRun(_) | Note::Suite(_)));
-                notes.append(&mut known);
+                notes.extend(known.into_iter().filter_map(|note| told.shown(note)));
             }
+            told.runs = false;
+            release(&mut told, None, &mut notes, &mut stderr);
         }
         let mut finished = run.finish(None, false).expect("the numbers fit");
+        without_report.extend(Some(notes.len()).zip(told.program.take()));
         notes.append(&mut finished.notes);
+        let mut names: Vec<String> = Vec::new();
+        without_report.retain(|(_, name)| {
+            let is_new = !names.contains(name);
+            names.push(name.clone());
+            is_new
+        });
         Facts {
             notes,
             end: finished.end,
             others,
+            cancelled: told.cancelled,
+            without_report,
+            stderr,
         }
     }
 
-    /// Returns the tests that passed, failed or were skipped.
+    /// Returns the output of a failed test: as it was captured, or else the panic of its thread in what its program wrote.
+    pub fn output_of<'a>(&'a self, test: &TestNote, failure: &'a Failure) -> &'a str {
+        if let Some(stdout) = &failure.stdout {
+            return stdout;
+        }
+        let place = self
+            .tests_with_places()
+            .find(|(_, it)| std::ptr::eq(*it, test));
+        let stderr = place.and_then(|(place, _)| self.stderr.get(&place));
+        stderr.map_or("", |stderr| panic_in(stderr, &test.name))
+    }
+
+    /// Returns the tests with the places of their notes.
+    fn tests_with_places(&self) -> impl Iterator<Item = (usize, &TestNote)> {
+        let notes = self.notes.iter().enumerate();
+        notes.filter_map(|(place, note)| Some((place, test_of(note)?)))
+    }
+
+    /// Returns the line that says that the run was cancelled, if that is its outcome.
+    pub fn cancelled_line(&self) -> Option<String> {
+        let reason = self.cancelled?;
+        let is_cancelled = matches!(self.end.outcome, RunOutcome::Cancelled { .. });
+        is_cancelled.then(|| format!("the run was cancelled ({reason:?})"))
+    }
+
+    /// Returns the tests that passed, failed, were skipped or were stopped.
     pub fn tests(&self) -> impl Iterator<Item = &TestNote> {
         self.notes.iter().filter_map(test_of)
     }
@@ -127,7 +198,141 @@ fn test_of(note: &Note) -> Option<&TestNote> {
 pub fn failure_of(test: &TestNote) -> Option<&Failure> {
     match &test.outcome {
         TestOutcome::Failed(failure) => Some(failure),
-        TestOutcome::Passed { .. } | TestOutcome::Skipped { .. } => None,
+        TestOutcome::Passed { .. } | TestOutcome::Skipped { .. } | TestOutcome::Stopped => None,
+    }
+}
+
+/// Adds the notes that wait, if this line says that their program is over, or if there is no program any more.
+fn release(
+    told: &mut Told,
+    line: Option<&ProgramLine>,
+    notes: &mut Vec<Note>,
+    stderr: &mut BTreeMap<usize, String>,
+) {
+    let text = match line {
+        Some(ProgramLine::ProgramEnded { stderr, .. }) => stderr.as_str(),
+        Some(ProgramLine::ProgramStarted(_) | ProgramLine::CommandEnded { .. }) => "",
+        None if !told.runs => "",
+        _ => return,
+    };
+    for note in told.held.drain(..) {
+        stderr.insert(notes.len(), text.to_string());
+        notes.push(note);
+    }
+}
+
+/// Returns the part of a text from the first panic of a thread up to the first one of another thread.
+fn panic_in<'a>(text: &'a str, thread: &str) -> &'a str {
+    let is_panic = |line: &str| line.starts_with("thread '") && line.contains(" panicked at ");
+    let is_own = |line: &str| {
+        let front = [
+            format!("thread '{thread}' ("),
+            format!("thread '{thread}' panicked at "),
+        ];
+        is_panic(line) && front.iter().any(|front| line.starts_with(front.as_str()))
+    };
+    let mut starts = Vec::new();
+    let mut at = 0;
+    for line in text.split_inclusive('\n') {
+        if is_panic(line) {
+            starts.push((at, is_own(line)));
+        }
+        at += line.len();
+    }
+    let Some(first) = starts.iter().position(|(_, is_own)| *is_own) else {
+        return "";
+    };
+    let end = starts[first..].iter().find(|(_, is_own)| !is_own);
+    &text[starts[first].0..end.map_or(text.len(), |(end, _)| *end)]
+}
+
+impl Told {
+    /// Returns a note that is shown now, or keeps it: a failed test whose output was not captured becomes known with its
+    /// program, and so does its suite.
+    fn shown(&mut self, note: Note) -> Option<Note> {
+        let waits = match &note {
+            Note::Test(test) => failure_of(test).is_some_and(|failure| {
+                let is_told = matches!(failure.kind, FailureKind::Failed | FailureKind::TimedOut);
+                is_told && failure.stdout.is_none()
+            }),
+            Note::Suite(_) => !self.held.is_empty(),
+            _ => false,
+        };
+        if waits && self.runs {
+            self.held.push(note);
+            None
+        } else {
+            Some(note)
+        }
+    }
+
+    /// Takes a line of a file in which lines of programs count. Returns the program that ends with it, if it has its own
+    /// harness and told of no test.
+    fn on_line(&mut self, line: &Line) -> Option<String> {
+        let started = line.program().and_then(|line| match line {
+            ProgramLine::ProgramStarted(start) => Some(start),
+            _ => None,
+        });
+        let ended = match line.program() {
+            Some(ProgramLine::CommandCancelled(reason)) => {
+                self.cancelled = reason.or(self.cancelled);
+                None
+            }
+            Some(ProgramLine::CommandEnded { reason, .. }) => {
+                self.cancelled = reason.or(self.cancelled);
+                self.program.take()
+            }
+            Some(ProgramLine::CommandStarted) => None,
+            Some(_) => self.program.take(),
+            None => {
+                if let Event::SuiteStarted { .. } | Event::TestStarted { .. } = line.event() {
+                    self.program = None;
+                }
+                None
+            }
+        };
+        self.runs = match line.program() {
+            Some(ProgramLine::ProgramStarted(_)) => true,
+            Some(ProgramLine::ProgramEnded { .. } | ProgramLine::CommandEnded { .. }) => false,
+            _ => self.runs,
+        };
+        if let Some(start) = started.filter(|start| start.own_harness) {
+            self.program = Some(start.name.clone());
+        }
+        ended
+    }
+}
+
+/// Returns true if a note is of a test that was stopped.
+pub fn is_stopped(note: &Note) -> bool {
+    test_of(note).is_some_and(|test| matches!(test.outcome, TestOutcome::Stopped))
+}
+
+/// Returns what documents say below a problem of tests that were stopped in the suite `notes` are of.
+pub fn stopped_lines(notes: &[&Note]) -> Option<String> {
+    let stopped = notes.iter().filter(|note| is_stopped(note));
+    let tests = stopped.filter_map(|note| test_of(note));
+    let lines: Vec<String> = tests
+        .map(|test| {
+            let suite = suite_of(test).unwrap_or("its program");
+            match test.cancel {
+                Some(_) => format!("{} was stopped", own_name(test)),
+                None => format!("{} ran when {suite} ended", own_name(test)),
+            }
+        })
+        .collect();
+    (!lines.is_empty()).then(|| lines.join("\n"))
+}
+
+/// Returns how a test crashed, as its reason says it.
+pub fn crash_end(end: ProgramEnd) -> String {
+    match end {
+        ProgramEnd::Status(code) => format!("status {code}"),
+        ProgramEnd::Signal(2) => "signal: 2, SIGINT".to_string(),
+        ProgramEnd::Signal(6) => "signal: 6, SIGABRT".to_string(),
+        ProgramEnd::Signal(11) => "signal: 11, SIGSEGV".to_string(),
+        ProgramEnd::Signal(15) => "signal: 15, SIGTERM".to_string(),
+        ProgramEnd::Signal(number) => format!("signal: {number}"),
     }
 }
 
@@ -146,7 +351,7 @@ pub fn suite_of_problem(note: &Note) -> Option<&str> {
     match note {
         Note::NotRun(not_run) => Some(&not_run.suite),
         Note::Disagreement(
-            Disagreement::EndedEarly { suite } | Disagreement::LastLine { suite, .. },
+            Disagreement::EndedEarly { suite, .. } | Disagreement::LastLine { suite, .. },
         ) => Some(suite),
         _ => None,
     }
@@ -234,6 +439,7 @@ pub fn problem_line(note: &Note) -> Option<String> {
             not_run.not_run,
             not_run.initial_run_count
         )),
+        Note::Disagreement(Disagreement::Cancelled(_)) => None,
         Note::Disagreement(disagreement) => Some(disagreement_line(disagreement)),
         Note::Test(_) | Note::Flaky(_) | Note::Suite(_) => None,
     }
@@ -243,7 +449,10 @@ pub fn problem_line(note: &Note) -> Option<String> {
 fn disagreement_line(disagreement: &Disagreement) -> String {
     let verdict = |failed: &bool| if *failed { "failed" } else { "ok" };
     match disagreement {
-        Disagreement::EndedEarly { suite } => format!("{} ended early", shown(suite)),
+        Disagreement::EndedEarly { suite, end } => match end {
+            Some(end) => format!("{} ended early, {}", shown(suite), ended_how(*end)),
+            None => format!("{} ended early", shown(suite)),
+        },
         Disagreement::LastLine {
             suite,
             said,
@@ -279,10 +488,56 @@ fn disagreement_line(disagreement: &Disagreement) -> String {
             escaped(text, true)
         ),
         Disagreement::NoEvent { .. } => "no line of the input is of a test run".to_string(),
-        Disagreement::Command(CommandEnd::Signal { number }) => {
-            format!("the command ended by signal {number}")
+        Disagreement::Command(end) => command_line(end),
+        Disagreement::Program(fault) => fault_line(fault),
+        Disagreement::Cancelled(reason) => panic!("no form shows this: {reason:?}"),
+    }
+}
+
+/// Returns the line of a command that failed.
+fn command_line(end: &CommandEnd) -> String {
+    match end {
+        CommandEnd::NotStarted { error } => {
+            format!("the command could not be started: {}", escaped(error, true))
         }
-        Disagreement::Command(end) => panic!("these runs have no command: {end:?}"),
+        CommandEnd::Signal { number } => format!("the command ended by signal {number}"),
+        CommandEnd::Status { code } => {
+            format!("the command ended with status {code}, and no line says why")
+        }
+        CommandEnd::Error { words, .. } => {
+            let first = words.split('\n').next().unwrap_or("");
+            let first = first.strip_suffix('\r').unwrap_or(first);
+            format!("cargo: {}", escaped(first, true))
+        }
+    }
+}
+
+/// Returns how a program ended.
+fn ended_how(end: ProgramEnd) -> String {
+    match end {
+        ProgramEnd::Status(code) => format!("with status {code}"),
+        ProgramEnd::Signal(number) => format!("by signal {number}"),
+    }
+}
+
+/// Returns the line of what is wrong with a program.
+fn fault_line(fault: &ProgramFault) -> String {
+    match fault {
+        ProgramFault::Unexplained { program, end } => {
+            format!("{} ended {}", shown(program), ended_how(*end))
+        }
+        ProgramFault::NoTests { program } => format!("{} ended and ran no tests", shown(program)),
+        ProgramFault::NoEnd { program } => format!("{} did not end", shown(program)),
+        ProgramFault::NotStarted { end } => {
+            let end = match end {
+                ProgramEnd::Status(code) => format!("status {code}"),
+                ProgramEnd::Signal(number) => format!("signal {number}"),
+            };
+            format!("a program ended that had not started: {end}")
+        }
+        ProgramFault::CutOff => {
+            "the run was cut off: no line says how its command ended".to_string()
+        }
     }
 }
 

@@ -79,12 +79,16 @@ const OTHER_LINES: [&str; 11] = [
 ];
 
 /// A generator of one run.
-struct Generator {
-    random: Random,
+pub struct Generator {
+    pub random: Random,
     lines: String,
 
     /// True if no test fails and no line is wrong.
-    is_sound: bool,
+    pub is_sound: bool,
+
+    /// The names of tests that may be running, and whether a test has failed.
+    pub names: Vec<String>,
+    pub has_failed: bool,
 }
 
 /// A test while its lines are written.
@@ -103,17 +107,29 @@ struct Counts {
 
 /// Returns the files of a run. Each seed has a run of its own.
 pub fn run_of(seed: u64) -> Vec<Vec<u8>> {
-    let mut random = Random::new(seed);
-    let mut generator = Generator {
-        is_sound: random.one_in(6),
-        random,
-        lines: String::new(),
-    };
+    let mut generator = Generator::new(seed);
     let files = 1 + usize::from(generator.random.one_in(8));
     (0..files).map(|_| generator.file()).collect()
 }
 
 impl Generator {
+    /// Returns a generator for a seed.
+    pub fn new(seed: u64) -> Generator {
+        let mut random = Random::new(seed);
+        Generator {
+            is_sound: random.one_in(6),
+            random,
+            lines: String::new(),
+            names: Vec::new(),
+            has_failed: false,
+        }
+    }
+
+    /// Takes the lines that were written.
+    pub fn take_lines(&mut self) -> Vec<u8> {
+        std::mem::take(&mut self.lines).into_bytes()
+    }
+
     /// Returns a file of the run.
     fn file(&mut self) -> Vec<u8> {
         self.lines.clear();
@@ -128,7 +144,13 @@ impl Generator {
         if self.random.one_in(4) {
             self.lines.pop();
         }
-        std::mem::take(&mut self.lines).into_bytes()
+        self.take_lines()
+    }
+
+    /// Writes a line as it is.
+    pub fn whole_line(&mut self, line: &Value) {
+        self.lines.push_str(&line.to_string());
+        self.lines.push('\n');
     }
 
     /// Writes an event as a line. Few have a text in front, or a damaged event.
@@ -141,17 +163,16 @@ impl Generator {
             ]);
             self.lines.push_str(front);
         }
-        self.lines.push_str(&event.to_string());
-        self.lines.push('\n');
+        self.whole_line(event);
     }
 
     /// Returns true with a probability of one in `count`, unless nothing in the run is wrong.
-    fn is_wrong(&mut self, count: usize) -> bool {
+    pub fn is_wrong(&mut self, count: usize) -> bool {
         self.random.one_in(count) && !self.is_sound
     }
 
     /// Writes some lines that are no events.
-    fn others(&mut self) {
+    pub fn others(&mut self) {
         while self.is_wrong(3) {
             self.lines.push_str(self.random.one_of(&OTHER_LINES));
             self.lines.push('\n');
@@ -166,7 +187,7 @@ impl Generator {
     }
 
     /// Returns a name. One in 40 is longer than is shown.
-    fn name(&mut self) -> String {
+    pub fn name(&mut self) -> String {
         let mut name = self.text(3);
         if self.random.one_in(40) {
             name.push_str(&"né".repeat(400));
@@ -178,7 +199,7 @@ impl Generator {
     }
 
     /// Returns the output of a test.
-    fn output(&mut self) -> String {
+    pub fn output(&mut self) -> String {
         let mut output = self.text(6);
         while self.random.one_in(2) {
             output.push_str(self.random.one_of(&EXPLANATIONS));
@@ -199,7 +220,7 @@ impl Generator {
     }
 
     /// Writes the lines of a suite, whose tests run side by side.
-    fn suite(&mut self, number: usize) {
+    pub fn suite(&mut self, number: usize) {
         let key = self.random.one_in(3).then(|| {
             let binary = self.random.one_of(&["ledger", "a.b::c", "##[x]", "::b@c"]);
             json!({"crate": "c", "test_binary": binary, "kind": "test"})
@@ -233,6 +254,7 @@ impl Generator {
     fn test_lines(&mut self, tests: &[Test]) -> Counts {
         for test in tests {
             self.line(&json!({"type": "test", "event": "started", "name": test.name}));
+            self.names.push(test.name.clone());
             if self.random.one_in(20) {
                 self.others();
             }
@@ -267,7 +289,10 @@ impl Generator {
         }
         match event {
             "ok" => counts.passed += 1,
-            "failed" => counts.failed += 1,
+            "failed" => {
+                counts.failed += 1;
+                self.has_failed = true;
+            }
             _ => counts.ignored += 1,
         }
         self.texts(&mut end, event);

@@ -2,12 +2,12 @@
 //! middles of long lines.
 
 use crate::facts::{
-    Facts, MARKS, Suite, failure_of, outcome, own_name, problem_line, suite_of_problem,
-    without_returns,
+    Facts, MARKS, Suite, crash_end, failure_of, outcome, own_name, problem_line, stopped_lines,
+    suite_of_problem, without_returns,
 };
 use deodarsieve::RunStats;
 use deodarsieve_cli::report::options::{Options, OutputDisplay};
-use deodarsieve_run::{Failure, FailureKind, Note, TestNote, TestOutcome};
+use deodarsieve_run::{Crash, Disagreement, Failure, FailureKind, Note, TestNote, TestOutcome};
 use serde_json::{Value, json};
 
 /// What the forms except JSON show of a failed test. Its texts are not escaped.
@@ -99,6 +99,7 @@ fn test_value(test: &TestNote) -> Value {
     let result = match &test.outcome {
         TestOutcome::Passed { .. } => "passed",
         TestOutcome::Skipped { .. } => "skipped",
+        TestOutcome::Stopped => "stopped",
         TestOutcome::Failed(failure) => match failure.kind {
             FailureKind::TimedOut => "timed out",
             FailureKind::Crashed(_) => "crashed",
@@ -156,6 +157,9 @@ fn report_value(facts: &Facts) -> Value {
         .collect();
     if outcome(end) == "no-tests-run" {
         problems.insert(0, json!({"kind": "no tests", "line": "no test ran"}));
+    }
+    if let Some(line) = facts.cancelled_line() {
+        problems.push(json!({"kind": "cancelled", "line": line}));
     }
     let suites = facts.suites();
     let suites: Vec<Value> = suites.iter().map(suite_value).collect();
@@ -229,6 +233,7 @@ pub fn check(facts: &Facts, json: &str, options: Options) -> Shown {
         .map(|problem| take_text(problem, "why"))
         .collect();
     assert_eq!(value, report_value(facts));
+    check_stopped(facts, &problems);
     let no_tests = usize::from(outcome(&facts.end) == "no-tests-run");
     Shown {
         failures: facts
@@ -238,7 +243,8 @@ pub fn check(facts: &Facts, json: &str, options: Options) -> Shown {
                     .iter()
                     .position(|(found, _)| std::ptr::eq(*found, test));
                 let (_, shown) = found.swap_remove(place.expect("the failed test is in JSON"));
-                check_failure(test, failure, &shown, options);
+                let output = facts.output_of(test, failure);
+                check_failure(test, (failure, output), &shown, options);
                 let why = with_cut_lines(&shown.why, options.output);
                 ShownFailure {
                     short: with_cut_lines(&shown.short, options.output),
@@ -255,21 +261,49 @@ pub fn check(facts: &Facts, json: &str, options: Options) -> Shown {
     }
 }
 
+/// Asserts that the tests that were stopped are below the problem of their suite. `reasons` are what explains the
+/// problems, after what explains that no test ran.
+fn check_stopped(facts: &Facts, reasons: &[Option<String>]) {
+    let no_tests = usize::from(outcome(&facts.end) == "no-tests-run");
+    let suites = facts.suites();
+    for ((note, _), why) in facts.problems().zip(&reasons[no_tests..]) {
+        let is_theirs = |suite: &&Suite<'_>| match note {
+            Note::NotRun(_) => suite.notes.iter().any(|own| std::ptr::eq(*own, note)),
+            Note::Disagreement(Disagreement::OutsideSuite { .. }) => suite.name.is_none(),
+            _ => false,
+        };
+        match suites.iter().find(is_theirs) {
+            Some(suite) if suite.name.is_some() => {
+                assert_eq!(*why, stopped_lines(&suite.notes));
+            }
+            // Several files may have tests outside of suites.
+            Some(suite) => {
+                let all = stopped_lines(&suite.notes).unwrap_or_default();
+                assert!(all.contains(why.as_deref().unwrap_or("")), "{all}");
+            }
+            None => {}
+        }
+    }
+}
+
 /// Asserts what must be shown of a failed test, whatever its output says.
-fn check_failure(test: &TestNote, failure: &Failure, shown: &ShownFailure, options: Options) {
+fn check_failure(
+    test: &TestNote,
+    (failure, all): (&Failure, &str),
+    shown: &ShownFailure,
+    options: Options,
+) {
     let Options { limit, output, .. } = options;
     assert!(!shown.short.contains('\n'), "{:?}", shown.short);
     assert!(shown.short.len() <= limit);
     if let Some(place) = &shown.place {
-        check_place(test, failure, place);
+        check_place(test, (failure, all), place);
     }
     assert_size(&shown.why, options);
-    let stdout = failure.stdout.as_deref().unwrap_or("").trim_end();
+    let stdout = all.trim_end();
     let reason = reason_of(test, failure);
-    if let FailureKind::Crashed(_) = failure.kind {
-        assert_eq!(shown.why.split('\n').next(), Some(reason.as_str()));
-        let is_short = shown.short.starts_with(first(&reason, limit));
-        assert!(is_short, "{}", shown.short);
+    if let FailureKind::Crashed(crash) = &failure.kind {
+        check_crash(crash, &reason, shown, limit);
         return;
     }
     let is_whole = match output {
@@ -292,6 +326,22 @@ fn check_failure(test: &TestNote, failure: &Failure, shown: &ShownFailure, optio
             .unwrap_or("")
             .trim_end_matches('\r');
         assert!(shown.why.starts_with(wanted), "{}", shown.why);
+    }
+}
+
+/// Asserts that a crash is shown with its sentence and with how its program ended.
+fn check_crash(crash: &Crash, sentence: &str, shown: &ShownFailure, limit: usize) {
+    let mut lines = shown.why.split('\n');
+    assert_eq!(lines.next(), Some(sentence));
+    let end = crash.end.map(crash_end);
+    let short = match &end {
+        Some(end) => format!("{sentence} ({end})"),
+        None => sentence.to_string(),
+    };
+    let is_short = shown.short.starts_with(first(&short, limit));
+    assert!(is_short, "{}", shown.short);
+    if end.is_some() && limit > sentence.len() * 4 {
+        assert_eq!(lines.next().map(str::to_string), end);
     }
 }
 
@@ -372,7 +422,7 @@ pub fn reason_of(test: &TestNote, failure: &Failure) -> String {
 }
 
 /// Asserts that a place is in what is known of the test, and inside the repository.
-fn check_place(test: &TestNote, failure: &Failure, place: &Place) {
+fn check_place(test: &TestNote, (failure, output): (&Failure, &str), place: &Place) {
     let Place { file, line, column } = place;
     let outside = file.starts_with(['/', '\\']) || file.split(['/', '\\']).any(|it| it == "..");
     assert!(!outside && !file.is_empty(), "{file}");
@@ -386,7 +436,7 @@ fn check_place(test: &TestNote, failure: &Failure, place: &Place) {
     };
     let texts = [
         own_name(test),
-        failure.stdout.as_deref().unwrap_or(""),
+        output,
         failure.message.as_deref().unwrap_or(""),
         crash,
     ];

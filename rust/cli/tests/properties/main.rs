@@ -11,6 +11,7 @@ mod common;
 mod documents;
 mod facts;
 mod generated;
+mod generated_programs;
 mod json;
 mod mutated;
 mod program;
@@ -21,6 +22,7 @@ mod xml;
 
 use deodarsieve::RunOutcome;
 use deodarsieve_cli::report::options::Options;
+use deodarsieve_run::FailureKind;
 use facts::Facts;
 use random::Random;
 use written::{AMOUNTS, Written};
@@ -36,6 +38,7 @@ fn check(run: &[Vec<u8>], options: Options) {
     assert_eq!(written.others, facts.others);
     let succeeds = end.run.outcome == RunOutcome::Success;
     let is_sound = facts.failures().next().is_none() && facts.problems().next().is_none();
+    let is_sound = is_sound && facts.cancelled_line().is_none();
     let ran = facts.end.stats.finished_count > 0;
     assert_eq!(succeeds, is_sound && ran);
     let shown = json::check(&facts, &written.json, options);
@@ -74,6 +77,62 @@ fn generated_runs() {
             seed as usize,
         );
     }
+}
+
+#[test]
+fn generated_runs_of_programs() {
+    for seed in 0..400 {
+        check_named(
+            &format!("of programs of the seed {seed}"),
+            &generated_programs::run_of(seed),
+            seed as usize,
+        );
+    }
+}
+
+#[test]
+fn generated_runs_of_programs_have_each_kind_of_problem() {
+    let (mut lines, mut silent, mut uncaptured) = (String::new(), 0, 0);
+    for seed in 0..400 {
+        let facts = Facts::of(&generated_programs::run_of(seed));
+        let problems = facts.problems().map(|(_, line)| line);
+        let stopped = facts.suites().into_iter();
+        let stopped = stopped.filter_map(|suite| facts::stopped_lines(&suite.notes));
+        for line in problems.chain(stopped).chain(facts.cancelled_line()) {
+            lines.push_str(&format!("{line}\n"));
+        }
+        silent += facts.without_report.len();
+        let uncaptured_here = facts.failures().filter(|(test, failure)| {
+            let is_told = matches!(failure.kind, FailureKind::Failed | FailureKind::TimedOut);
+            is_told && failure.stdout.is_none() && !facts.output_of(test, failure).is_empty()
+        });
+        uncaptured += uncaptured_here.count();
+    }
+    for part in [
+        " ended with status 3\n",
+        " ended with status -7\n",
+        " ended by signal 11\n",
+        " ended early, by signal 99\n",
+        " ended early, with status 0\n",
+        " ended and ran no tests\n",
+        " did not end\n",
+        "a program ended that had not started: signal ",
+        "a program ended that had not started: status ",
+        "the run was cut off: no line says how its command ended\n",
+        "the run was cancelled (Interrupt)\n",
+        "the run was cancelled (Signal)\n",
+        " was stopped\n",
+        " ran when ",
+        "cargo: error: no bank\n",
+        "the command ended with status 101, and no line says why\n",
+    ] {
+        assert!(lines.contains(part), "no run has {part:?}");
+    }
+    assert!(silent > 0, "no program has its own harness");
+    assert!(
+        uncaptured > 0,
+        "no test has its panic in what its program wrote"
+    );
 }
 
 #[test]

@@ -1,12 +1,12 @@
 //! The forms that are written while the run is read: `text`, `names`, `github`, and text with annotations.
 
 use crate::facts::{
-    Facts, MARKS, bracket, escaped, failure_of, outcome, problem_line, status_of, summary, title,
-    turns_writing, without_returns,
+    Facts, MARKS, bracket, crash_end, escaped, failure_of, is_stopped, outcome, problem_line,
+    shown, status_of, summary, title, turns_writing, without_returns,
 };
 use crate::json::{Place, Shown, ShownFailure, limited, reason_of, with_cut_lines};
 use crate::written::{SLOWEST, Written};
-use deodarsieve::TestOutputErrorSlice;
+use deodarsieve::{CancelReason, TestOutputErrorSlice};
 use deodarsieve_cli::report::options::Options;
 use deodarsieve_run::{Crash, Disagreement, Failure, FailureKind, Note, TestNote, TestOutcome};
 use std::cmp::Reverse;
@@ -59,8 +59,10 @@ impl Kind {
         match &failure.kind {
             FailureKind::Crashed(crash) if crash.above && has_explanation(crash) => {
                 let sentence = reason_of(test, failure);
+                let end = crash.end.map(crash_end);
                 let parts = [
                     Some(sentence.as_str()),
+                    end.as_deref(),
                     crash.cause.as_deref(),
                     Some("as above"),
                 ];
@@ -103,8 +105,14 @@ fn passed_lines(test: &TestNote, kind: Kind) -> String {
     );
     match output.as_str() {
         "" => line,
+        _ if is_after_interrupt(test) => line,
         output => line + &kind.indented(output),
     }
+}
+
+/// Returns true if a test became known after Ctrl-C. Then it has its line alone, and is not in the list.
+fn is_after_interrupt(test: &TestNote) -> bool {
+    test.cancel == Some(CancelReason::Interrupt)
 }
 
 /// Returns the text before the summary.
@@ -112,7 +120,8 @@ fn lines_before(facts: &Facts, shown: &Shown, kind: Kind) -> String {
     let mut failures = shown.failures.iter();
     let mut reasons = shown.problems.iter();
     let mut text = String::new();
-    for note in &facts.notes {
+    for (place, note) in facts.notes.iter().enumerate() {
+        text += &without_report(facts, place);
         match note {
             Note::Test(test) => match &test.outcome {
                 TestOutcome::Failed(failure) => {
@@ -123,7 +132,9 @@ fn lines_before(facts: &Facts, shown: &Shown, kind: Kind) -> String {
                     };
                     let status = status_of(failure);
                     text += &format!("{status} {}{}{times}\n", bracket(test.time), title(test));
-                    text += &kind.why(test, failure, shown);
+                    if !is_after_interrupt(test) {
+                        text += &kind.why(test, failure, shown);
+                    }
                 }
                 TestOutcome::Passed { .. } if kind.has_all && test.attempts <= 1 => {
                     text += &passed_lines(test, kind);
@@ -131,17 +142,28 @@ fn lines_before(facts: &Facts, shown: &Shown, kind: Kind) -> String {
                 TestOutcome::Skipped { .. } if kind.has_all => {
                     text += &format!("SKIP {}{}\n", bracket(test.time), title(test));
                 }
-                TestOutcome::Passed { .. } | TestOutcome::Skipped { .. } => {}
+                TestOutcome::Passed { .. } | TestOutcome::Skipped { .. } | TestOutcome::Stopped => {
+                }
             },
             Note::Flaky(test) if kind.has_all => text += &passed_lines(test, kind),
-            Note::Disagreement(_) | Note::NotRun(_) => {
+            Note::Disagreement(_) | Note::NotRun(_) if problem_line(note).is_some() => {
                 let why = reasons.next().expect("each problem is shown");
                 text += &problem_lines(note, why.as_deref(), kind);
             }
-            Note::Flaky(_) | Note::Suite(_) => {}
+            Note::Flaky(_) | Note::Disagreement(_) | Note::NotRun(_) | Note::Suite(_) => {}
         }
     }
-    text
+    text += &without_report(facts, facts.notes.len());
+    let cancelled = facts.cancelled_line().map(|line| line + "\n");
+    text + &cancelled.unwrap_or_default()
+}
+
+/// Returns the lines of the programs without a report that ended before this note.
+fn without_report(facts: &Facts, place: usize) -> String {
+    let ended = facts.without_report.iter().filter(|(at, _)| *at == place);
+    ended
+        .map(|(_, name)| format!("{} has its own harness, and no report\n", shown(name)))
+        .collect()
 }
 
 /// Returns the lines of a problem.
@@ -153,6 +175,8 @@ fn problem_lines(note: &Note, why: Option<&str>, kind: Kind) -> String {
         _ => false,
     };
     let advice = if lacks_events { ADVICE } else { "" };
+    // The list has the tests that were stopped in a cancelled run.
+    let why = why.filter(|why| !why.split('\n').all(|line| line.ends_with(" was stopped")));
     line + &why.map(|why| kind.indented(why)).unwrap_or_default() + advice
 }
 
@@ -163,7 +187,9 @@ fn listed(status: &str, test: &TestNote, more: &str) -> String {
 
 /// Returns the list at the end. If it has all tests, it has the slowest ones, too.
 fn list(facts: &Facts, shown: &Shown, kind: Kind) -> String {
-    let passed = |test: &&TestNote| matches!(test.outcome, TestOutcome::Passed { .. });
+    let passed = |test: &&TestNote| {
+        matches!(test.outcome, TestOutcome::Passed { .. }) && !is_after_interrupt(test)
+    };
     let at_once = |test: &&TestNote| test.attempts <= 1;
     let mut text = String::new();
     if kind.has_all {
@@ -176,7 +202,7 @@ fn list(facts: &Facts, shown: &Shown, kind: Kind) -> String {
             text += &listed("PASS", test, "");
         }
         for test in facts.tests() {
-            if matches!(test.outcome, TestOutcome::Skipped { .. }) {
+            if matches!(test.outcome, TestOutcome::Skipped { .. }) && !is_after_interrupt(test) {
                 text += &listed("SKIP", test, "");
             }
         }
@@ -204,11 +230,17 @@ fn list(facts: &Facts, shown: &Shown, kind: Kind) -> String {
             Note::Test(test) if failure_of(test).is_some() => {
                 let shown = failures.next().expect("each failed test is shown");
                 let status = failure_of(test).map_or("", status_of);
-                text += &listed(status, test, &format!(": {}", kind.input(&shown.short)));
+                if !is_after_interrupt(test) {
+                    text += &listed(status, test, &format!(": {}", kind.input(&shown.short)));
+                }
             }
             Note::Disagreement(_) => {
-                let line = problem_line(note).expect("it is a problem");
-                text += &format!("       ERROR {line}\n");
+                if let Some(line) = problem_line(note) {
+                    text += &format!("       ERROR {line}\n");
+                }
+            }
+            Note::Test(test) if is_stopped(note) && test.cancel.is_some() => {
+                text += &listed("STOPPED", test, "");
             }
             Note::Test(_) | Note::Flaky(_) | Note::NotRun(_) | Note::Suite(_) => {}
         }
@@ -304,7 +336,9 @@ fn annotations(facts: &Facts, shown: &Shown) -> String {
                 text += &failure_annotation(test, shown);
             }
             Note::Disagreement(_) | Note::NotRun(_) => {
-                let mut message = problem_line(note).expect("it is a problem");
+                let Some(mut message) = problem_line(note) else {
+                    continue;
+                };
                 if let Some(why) = reasons.next().expect("each problem is shown") {
                     message += &format!("\n{}", escaped(why, false));
                 }
@@ -312,6 +346,9 @@ fn annotations(facts: &Facts, shown: &Shown) -> String {
             }
             Note::Test(_) | Note::Flaky(_) | Note::Suite(_) => {}
         }
+    }
+    if let Some(line) = facts.cancelled_line() {
+        text += &annotation("error", &[], &line);
     }
     let end = format!("{}, outcome {}", summary(&facts.end), outcome(&facts.end));
     text + &annotation("notice", &[], &end)
@@ -394,7 +431,7 @@ fn check_colours(facts: &Facts, all: &str) {
             _ => "[1;33",
         };
         let is_word = [
-            "FAIL", "TIMEOUT", "CRASH", "ERROR", "PASS", "SKIP", "SLOW", "SLOWEST",
+            "FAIL", "TIMEOUT", "CRASH", "ERROR", "PASS", "SKIP", "STOPPED", "SLOW", "SLOWEST",
         ]
         .contains(&word);
         assert!(is_word || word.starts_with("FLAKY "), "{word}");
@@ -406,18 +443,21 @@ fn check_colours(facts: &Facts, all: &str) {
         .iter()
         .filter(|note| matches!(note, Note::Flaky(_)))
         .count();
-    let passed = facts
-        .tests()
-        .filter(|test| matches!(test.outcome, TestOutcome::Passed { .. }));
-    let late = passed.filter(|test| test.attempts > 1).count();
     let slowest = slowest_tests(facts).len().min(SLOWEST);
     let disagreements = facts
         .notes
         .iter()
-        .filter(|note| matches!(note, Note::Disagreement(_)))
+        .filter(|note| matches!(note, Note::Disagreement(_)) && problem_line(note).is_some())
         .count();
-    // Each test has its word when it ends and in the list. A flaky one passes before it counts. A contradiction has one in
-    // the list alone.
-    let tests = 2 * facts.tests().count() - late;
+    // A test has its word when it ends and in the list. A flaky one passes before it counts. A contradiction, and a test that
+    // was stopped because the run was cancelled, has one in the list alone.
+    let words = |test: &TestNote| match &test.outcome {
+        TestOutcome::Stopped => usize::from(test.cancel.is_some()),
+        TestOutcome::Passed { .. } if test.attempts > 1 => usize::from(!is_after_interrupt(test)),
+        TestOutcome::Passed { .. } | TestOutcome::Skipped { .. } | TestOutcome::Failed(_) => {
+            1 + usize::from(!is_after_interrupt(test))
+        }
+    };
+    let tests: usize = facts.tests().map(words).sum();
     assert_eq!(count, tests + flaky + disagreements + slowest);
 }

@@ -1,0 +1,285 @@
+//! Starts a test program, stays, and tells what it sees of it, in lines of a run.
+
+use super::end::process_end;
+use super::last_output::LastOutput;
+use super::run_line::{ProgramLine, RunLine, StartedProgram, is_run_line};
+use super::running::RunningCommand;
+use super::system::Signals;
+use crate::lines::Lines;
+use crate::process_streams::{LOOK, ProcessStreams, Stream};
+use std::io::{self, BufWriter, Write};
+use std::mem;
+use std::process::{Command, ExitStatus};
+use std::thread;
+use std::time::{Duration, Instant};
+
+/// The first time between two looks at a program that has closed its output and has not ended. Each one is twice as long
+/// as the one before.
+const FIRST_LOOK: Duration = Duration::from_millis(1);
+
+/// The most bytes of short lines that are written at once.
+const BUFFER: usize = 65_536;
+
+/// Runs a program, and tells `output` what it sees of it: that it starts, each line of its standard output, and how it
+/// ended. What the program writes to standard error goes to `errors` at once. Returns how the program ended.
+///
+/// If nobody reads `output` any more, the program has no reader either.
+///
+/// Fails if the program cannot be started.
+pub fn watch(
+    command: &mut Command,
+    program: StartedProgram,
+    output: impl Write,
+    errors: impl Write,
+) -> io::Result<ExitStatus> {
+    let signals = Signals::catch()?;
+    let (mut running, stdout, stderr) = RunningCommand::start_apart(command)?;
+    let streams = ProcessStreams::start([
+        (Stream::Output, Box::new(stdout)),
+        (Stream::Error, Box::new(stderr)),
+    ])?;
+    let mut teller = Teller::new(output, errors);
+    let is_told = teller
+        .tell(&RunLine::Program(ProgramLine::Started(program)))
+        .and_then(|()| pass_on(streams, &mut running, &signals, &mut teller));
+    let status = wait_for(&mut running, &signals)?;
+    if is_told.is_ok() {
+        // If nobody reads it, it is not needed.
+        let _ = teller.end(status);
+    }
+    Ok(status)
+}
+
+/// Passes on what a program writes, until its streams end or it is over.
+///
+/// Fails if the output cannot be written.
+fn pass_on(
+    mut streams: ProcessStreams,
+    running: &mut RunningCommand,
+    signals: &Signals,
+    teller: &mut Teller<impl Write, impl Write>,
+) -> io::Result<()> {
+    while !streams.are_over(Instant::now()) {
+        // A stream that cannot be read is at its end.
+        if let Ok(Some((stream, piece))) = streams.next_piece(LOOK) {
+            teller.take(stream, &piece)?;
+        }
+        pass_signal_on(running, signals);
+        if running.status()?.is_some() {
+            streams.note_end(Instant::now());
+        }
+    }
+    Ok(())
+}
+
+/// Waits for the end of a program whose streams have ended.
+fn wait_for(running: &mut RunningCommand, signals: &Signals) -> io::Result<ExitStatus> {
+    let mut pause = FIRST_LOOK;
+    loop {
+        if let Some(status) = running.status()? {
+            return Ok(status);
+        }
+        thread::sleep(pause);
+        pause = LOOK.min(2 * pause);
+        pass_signal_on(running, signals);
+    }
+}
+
+/// Sends SIGTERM on to a program. Ctrl-C on a terminal reaches the program by itself.
+fn pass_signal_on(running: &mut RunningCommand, signals: &Signals) {
+    if signals.take_terminate() {
+        running.terminate();
+    }
+}
+
+/// Writes what a stand-in sees of its program.
+struct Teller<O: Write, E> {
+    output: BufWriter<O>,
+    errors: E,
+
+    /// The line of standard output that has begun.
+    lines: Lines,
+
+    /// What came last to standard error.
+    last: LastOutput,
+}
+
+impl<O: Write, E: Write> Teller<O, E> {
+    /// Returns a teller that has told nothing.
+    fn new(output: O, errors: E) -> Teller<O, E> {
+        Teller {
+            output: BufWriter::with_capacity(BUFFER, output),
+            errors,
+            lines: Lines::default(),
+            last: LastOutput::default(),
+        }
+    }
+
+    /// Writes a line of its own.
+    fn tell(&mut self, line: &RunLine) -> io::Result<()> {
+        let mut text = line.text()?;
+        text.push(b'\n');
+        self.output.write_all(&text)?;
+        self.output.flush()
+    }
+
+    /// Takes what the program wrote next to a stream.
+    ///
+    /// Fails if the output cannot be written.
+    fn take(&mut self, stream: Stream, piece: &[u8]) -> io::Result<()> {
+        match stream {
+            Stream::Output => {
+                let (output, errors) = (&mut self.output, &mut self.errors);
+                self.lines
+                    .take(piece, |line| pass_line_on(line, output, errors))?;
+                self.output.flush()
+            }
+            Stream::Error => {
+                // If nobody reads it, the program goes on as if somebody did.
+                let _ = self.errors.write_all(piece);
+                self.last.push(piece);
+                Ok(())
+            }
+        }
+    }
+
+    /// Writes a last line that has no line feed, and how the program ended.
+    ///
+    /// Fails if the output cannot be written.
+    fn end(mut self, status: ExitStatus) -> io::Result<()> {
+        if let Some(line) = self.lines.end() {
+            pass_line_on(&line, &mut self.output, &mut self.errors)?;
+        }
+        let stderr = mem::take(&mut self.last).into_text();
+        self.tell(&RunLine::Program(ProgramLine::Ended {
+            end: process_end(status),
+            stderr: stderr.into(),
+        }))
+    }
+}
+
+/// Writes a line of a program's standard output, and its line feed. A line that a reader would take as one of this program
+/// goes to `errors`.
+///
+/// Fails if `output` cannot be written.
+fn pass_line_on(line: &[u8], output: &mut impl Write, errors: &mut impl Write) -> io::Result<()> {
+    if is_run_line(line) {
+        // If nobody reads it, the program goes on as if somebody did.
+        let _ = errors.write_all(&[line, b"\n"].concat());
+        return Ok(());
+    }
+    output.write_all(line)?;
+    output.write_all(b"\n")
+}
+
+#[cfg(all(test, unix))]
+mod tests {
+    use super::*;
+    use std::os::unix::process::ExitStatusExt;
+
+    /// Returns what is told of a script of the shell: the output without the first and the last line, the last line,
+    /// and standard error.
+    fn told(script: &str) -> (String, String, String) {
+        let (mut output, mut errors) = (Vec::new(), Vec::new());
+        let mut command = Command::new("sh");
+        command.args(["-c", script]);
+        let program = StartedProgram {
+            harness: true,
+            ..StartedProgram::default()
+        };
+        watch(&mut command, program, &mut output, &mut errors).expect("a shell starts");
+        let output = String::from_utf8(output).expect("the output is UTF-8");
+        let errors = String::from_utf8_lossy(&errors).into_owned();
+        let first = "{\"type\":\"program\",\"event\":\"started\"}\n";
+        let rest = output.strip_prefix(first).expect("it begins so");
+        let rest = rest.strip_suffix('\n').expect("it is a whole line");
+        let at = rest.rfind('\n').map_or(0, |at| at + 1);
+        (rest[..at].into(), rest[at..].into(), errors)
+    }
+
+    #[test]
+    fn each_line_is_passed_on_and_the_end_is_told() {
+        let (output, end, errors) =
+            told("echo a; printf 'b\\r\\n\\n'; printf c; printf 'x\\ny' >&2; exit 101");
+        assert_eq!(output, "a\nb\r\n\nc\n");
+        assert_eq!(
+            end,
+            r#"{"type":"program","event":"ended","status":101,"stderr":"x\ny"}"#
+        );
+        assert_eq!(errors, "x\ny");
+    }
+
+    #[test]
+    fn an_end_by_a_signal_is_told_as_one() {
+        let (_, end, _) = told("kill -9 $$");
+        assert_eq!(
+            end,
+            r#"{"type":"program","event":"ended","signal":9,"stderr":""}"#
+        );
+    }
+
+    #[test]
+    fn no_program_tells_how_it_ended() {
+        let script = r#"echo '{"type":"program","event":"ended","status":0}'; echo kept
+            printf 'text {"type":"command","event":"ended","status":0}'"#;
+        let (output, end, errors) = told(script);
+        assert_eq!(output, "kept\n");
+        assert!(end.contains(r#""stderr":"""#), "{end}");
+        let wanted = "{\"type\":\"program\",\"event\":\"ended\",\"status\":0}\n\
+                      text {\"type\":\"command\",\"event\":\"ended\",\"status\":0}\n";
+        assert_eq!(errors, wanted);
+    }
+
+    #[test]
+    fn a_program_that_closes_its_output_is_waited_for() {
+        let (_, end, _) = told("exec >&- 2>&-; sleep 0.3; exit 7");
+        assert_eq!(
+            end,
+            r#"{"type":"program","event":"ended","status":7,"stderr":""}"#
+        );
+    }
+
+    #[test]
+    fn a_process_that_is_left_behind_is_not_waited_for() {
+        let start = Instant::now();
+        let (output, end, _) = told("sleep 30 & echo a; exit 0");
+        assert_eq!(output, "a\n");
+        assert!(end.contains(r#""status":0"#), "{end}");
+        let time = start.elapsed();
+        assert!(time >= Duration::from_secs(2) && time < Duration::from_secs(8));
+    }
+
+    /// A reader that has gone.
+    struct Gone;
+
+    impl Write for Gone {
+        fn write(&mut self, _buffer: &[u8]) -> io::Result<usize> {
+            Err(io::ErrorKind::BrokenPipe.into())
+        }
+
+        fn flush(&mut self) -> io::Result<()> {
+            Ok(())
+        }
+    }
+
+    #[test]
+    fn a_program_has_no_reader_if_its_stand_in_has_none() {
+        let mut command = Command::new("sh");
+        command.args(["-c", "while echo a; do :; done"]);
+        let program = StartedProgram::default();
+        let status = watch(&mut command, program, Gone, io::sink()).expect("a shell starts");
+        // The shell ends by SIGPIPE.
+        assert_eq!(status.signal(), Some(13));
+    }
+
+    #[test]
+    fn standard_error_may_have_no_reader() {
+        let mut output = Vec::new();
+        let mut command = Command::new("sh");
+        command.args(["-c", "echo x >&2; echo a"]);
+        let program = StartedProgram::default();
+        watch(&mut command, program, &mut output, Gone).expect("a shell starts");
+        let text = String::from_utf8(output).expect("the output is UTF-8");
+        assert!(text.contains("\na\n") && text.contains(r#""stderr":"x\n""#));
+    }
+}

@@ -1,0 +1,76 @@
+//! Failed tests without a captured output, which become known when their program ends: it says then what they wrote.
+
+use deodarsieve_run::{FailureKind, Line, Note, ProgramLine, TestOutcome};
+use std::mem;
+
+/// The notes that wait for the end of the program that runs: of failed tests without an output, and of the suites after
+/// them.
+#[derive(Default)]
+pub(crate) struct HeldNotes {
+    notes: Vec<Note>,
+}
+
+/// Notes that become known with the end of their program.
+#[derive(Default)]
+pub(crate) struct ReleasedNotes {
+    pub(crate) notes: Vec<Note>,
+
+    /// What the program wrote to standard error, as far as the line of its end has it.
+    pub(crate) stderr: String,
+}
+
+impl HeldNotes {
+    /// Keeps those of the notes of a line that wait, and returns the others.
+    pub(crate) fn keep(&mut self, notes: Vec<Note>) -> Vec<Note> {
+        let mut others = Vec::new();
+        for note in notes {
+            if self.waits(&note) {
+                self.notes.push(note);
+            } else {
+                others.push(note);
+            }
+        }
+        others
+    }
+
+    /// Returns the notes that wait, if a line says that their program is over.
+    pub(crate) fn released_by(&mut self, line: &Line) -> ReleasedNotes {
+        match line.program() {
+            Some(ProgramLine::ProgramEnded { stderr, .. }) => ReleasedNotes {
+                stderr: stderr.clone(),
+                ..self.release()
+            },
+            Some(ProgramLine::ProgramStarted(_) | ProgramLine::CommandEnded { .. }) => {
+                self.release()
+            }
+            Some(ProgramLine::CommandStarted | ProgramLine::CommandCancelled(_)) | None => {
+                ReleasedNotes::default()
+            }
+        }
+    }
+
+    /// Returns all notes that wait. Nothing is known of what their program wrote.
+    pub(crate) fn release(&mut self) -> ReleasedNotes {
+        ReleasedNotes {
+            notes: mem::take(&mut self.notes),
+            stderr: String::new(),
+        }
+    }
+
+    /// Returns true if a note waits. A suite does after one of its tests.
+    fn waits(&self, note: &Note) -> bool {
+        match note {
+            Note::Test(test) => match &test.outcome {
+                TestOutcome::Failed(failure) => match failure.kind {
+                    FailureKind::Failed | FailureKind::TimedOut => failure.stdout.is_none(),
+                    FailureKind::WithoutEnd | FailureKind::Flaky | FailureKind::Crashed(_) => false,
+                },
+                TestOutcome::Passed { .. } | TestOutcome::Skipped { .. } | TestOutcome::Stopped => {
+                    false
+                }
+            },
+            Note::Suite(_) => !self.notes.is_empty(),
+            Note::Flaky(_) | Note::Disagreement(_) | Note::NotRun(_) => false,
+        }
+    }
+}

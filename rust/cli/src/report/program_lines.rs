@@ -1,0 +1,151 @@
+//! What a report needs of lines of programs, and of the build before them, beside the notes of the run.
+
+use crate::report::build::{CompilerMessages, FailedBuild};
+use deodarsieve::CancelReason;
+use deodarsieve_run::{CommandEnd, Disagreement, Event, Line, Note, ProgramLine};
+use std::collections::BTreeSet;
+use std::mem;
+
+/// What was read in lines of programs so far.
+#[derive(Default)]
+pub(crate) struct ProgramLines {
+    /// Whether these lines count in this file, once it has a line: they do if its first line is one of them.
+    count: Option<bool>,
+
+    /// Why the run is cancelled, if it is.
+    cancelled: Option<CancelReason>,
+
+    /// True if a program, a suite or a test of this file started.
+    has_started: bool,
+
+    /// The name of the program that runs.
+    program: Option<String>,
+
+    /// What the compiler said in the build, before anything started.
+    messages: CompilerMessages,
+
+    /// True if this program has its own harness, and no suite or test of it started.
+    is_silent: bool,
+
+    /// The programs that were returned.
+    returned: BTreeSet<String>,
+}
+
+/// What is known at the end of a file.
+pub(crate) struct ToldAtEnd {
+    /// The name of the program that ended with the file, as `ProgramLines::on_line` returns it.
+    pub(crate) own_harness: Option<String>,
+
+    /// The build of the tests, if it failed.
+    pub(crate) build: Option<FailedBuild>,
+}
+
+impl ProgramLines {
+    /// Returns true if a line is the first one of another run in the same file: where such lines count, a command starts.
+    pub(crate) fn ends_before(&self, line: &Line) -> bool {
+        self.count == Some(true) && matches!(line.program(), Some(ProgramLine::CommandStarted))
+    }
+
+    /// Takes a line of the run. Returns the name of the program that ended, if it has its own harness, told of no test,
+    /// and was not returned before.
+    pub(crate) fn on_line(&mut self, line: &Line) -> Option<String> {
+        let told = line.program();
+        if !*self.count.get_or_insert(told.is_some()) {
+            return None;
+        }
+        match told {
+            None => {
+                if is_start(line.event()) {
+                    self.is_silent = false;
+                    self.has_started = true;
+                }
+                None
+            }
+            Some(ProgramLine::ProgramStarted(start)) => {
+                let ended = self.end_program();
+                self.has_started = true;
+                self.program = Some(start.name.clone());
+                self.is_silent = start.own_harness;
+                ended
+            }
+            Some(ProgramLine::ProgramEnded { .. }) => self.end_program(),
+            Some(ProgramLine::CommandStarted) => None,
+            Some(ProgramLine::CommandCancelled(reason)) => {
+                self.cancelled = reason.or(self.cancelled);
+                None
+            }
+            Some(ProgramLine::CommandEnded { reason, .. }) => {
+                self.cancelled = reason.or(self.cancelled);
+                self.end_program()
+            }
+        }
+    }
+
+    /// Takes the same line, and returns true if it is one of the build: cargo wrote it before anything started.
+    pub(crate) fn on_message(&mut self, line: &[u8]) -> bool {
+        let may_be_of_build = self.count == Some(true) && !self.has_started;
+        may_be_of_build && self.messages.on_line(line)
+    }
+
+    /// Takes the end of a file, which made these notes known.
+    pub(crate) fn end_file(&mut self, notes: &[Note]) -> ToldAtEnd {
+        let count = self.count.take() == Some(true);
+        let has_started = mem::take(&mut self.has_started);
+        let messages = mem::take(&mut self.messages);
+        let end = notes.iter().find_map(end_of_command);
+        let is_failed_build = count && !has_started && (messages.have_errors() || end.is_some());
+        ToldAtEnd {
+            own_harness: self.end_program(),
+            build: is_failed_build.then(|| FailedBuild {
+                messages,
+                end: end.cloned(),
+            }),
+        }
+    }
+
+    /// Notes that the run is cancelled.
+    pub(crate) fn cancel(&mut self, reason: CancelReason) {
+        self.cancelled = Some(reason);
+    }
+
+    /// Returns the name of the program that runs, if one does.
+    pub(crate) fn program(&self) -> Option<&str> {
+        self.program.as_deref()
+    }
+
+    /// Returns why the run is cancelled, if it is.
+    pub(crate) fn cancelled(&self) -> Option<CancelReason> {
+        self.cancelled
+    }
+
+    /// Ends the program that runs, and returns its name if it has no report and was not returned before.
+    fn end_program(&mut self) -> Option<String> {
+        let name = self.program.take().filter(|_| self.is_silent)?;
+        self.returned.insert(name.clone()).then_some(name)
+    }
+}
+
+/// Returns true if a suite or a test starts.
+fn is_start(event: Event<'_>) -> bool {
+    matches!(
+        event,
+        Event::SuiteStarted { .. } | Event::TestStarted { .. }
+    )
+}
+
+/// Returns how a command ended that was started and failed, if a note says so.
+fn end_of_command(note: &Note) -> Option<&CommandEnd> {
+    match note {
+        Note::Disagreement(Disagreement::Command(end)) => match end {
+            CommandEnd::NotStarted { .. } => None,
+            CommandEnd::Signal { .. } | CommandEnd::Status { .. } | CommandEnd::Error { .. } => {
+                Some(end)
+            }
+        },
+        Note::Test(_)
+        | Note::Flaky(_)
+        | Note::Disagreement(_)
+        | Note::NotRun(_)
+        | Note::Suite(_) => None,
+    }
+}
