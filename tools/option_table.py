@@ -735,14 +735,15 @@ def surroundings():
 HARNESS = "-- -Z unstable-options --format json --report-time"
 
 # What follows the subcommand of the cargo that builds the tests before.
-BUILDS = "--no-run --message-format json-render-diagnostics"
+BUILDS = "--no-run --message-format json"
 
 
 def added_arguments():
     """Yields the rows of what is added to the arguments of cargo, each time that it is started. `cargo` is a shell, and
     its subcommand is a script that adds its arguments to a file. The variable says that the harness takes unstable
     options."""
-    script = 'echo "$0 $@ $NEXTEST_EXPERIMENTAL_LIBTEST_JSON" >>a; cat red.jsonl'
+    script = ('echo "$0 $@ $NEXTEST_EXPERIMENTAL_LIBTEST_JSON" >>a; '
+              'case "$*" in "--no-run --message-format"*) ;; *) cat red.jsonl ;; esac')
     for words, *wanted in [
         ("test", f"test {BUILDS}", f"test --no-fail-fast {HARNESS}"),
         ("t one", f"t {BUILDS} one", f"t --no-fail-fast one {HARNESS}"),
@@ -766,8 +767,57 @@ def added_arguments():
                       after={"a": "".join(line + "\n" for line in lines), "cargo": "-> /bin/sh"})
 
 
+# Why a run is not saved: it is read from files, or its command has no stand-ins.
+FILES_UNSAVED = "only the run of a command can be saved"
+COMMAND_UNSAVED = ("the run of this command cannot be saved. That needs a `cargo test` or `cargo bench`, no RUSTC_BOOTSTRAP, "
+                   "and no setting that names a runner or a rustdoc")
+
+# The lines of a run that are saved around those of the test programs.
+SAVED_START = '{"type":"command","event":"started"}\n'
+SAVED_END = '{"type":"command","event":"ended","status":101}\n'
+
+
+def saved(path, status=1, stdout=RED_TEXT, stderr="", options=(), files=None, links=None, **others):
+    """Returns the row of a run that is saved. `cargo` is a shell, and its subcommand is a script. It has an argument after
+    which `test-report` adds its settings, which a shell before the script would refuse."""
+    script = 'case "$*" in *--no-run*) exit ;; esac; cat red.jsonl; exit 101'
+    return command(["./cargo", "test", "--config", "a=1"], status, stdout, stderr, ["--save", path, *options],
+                   links={"cargo": "/bin/sh", **(links or {})}, files={"test": script, **(files or {})}, **others)
+
+
+def saved_runs():
+    """Yields the rows of `--save`."""
+    run = SAVED_START + RED + SAVED_END
+    yield saved("a", after={"a": run})
+    yield saved("a", files={"a": "old " * 100_000}, after={"a": run})
+    yield saved("a", stdout="pays\n", options=["--format", "names"], after={"a": run})
+    yield saved("a", options=["--json", "b"], after={"a": run, "b": OBJECT})
+    yield saved("none/sub/a", after={"none/sub/a": run})
+    yield saved("SHARED/a", after={"SHARED/a": run})
+    yield saved("PIPE/a", after={"PIPE/a": run})
+    yield saved("/dev/null")
+    yield saved("/dev/stderr", stderr=run)
+    yield saved("/dev/full", 3, stderr="test-report: /dev/full cannot be written\n")
+    yield saved("x", links={"x": "sub/y", "sub/y": "z"}, files={"sub/b": ""},
+                after={"sub/z": run, "x": "-> sub/y", "sub/y": "-> z"})
+    for path in ("test/b", ".", "sub/", "test/../b", ""):
+        yield saved(path, 3, "", f"test-report: {path} cannot be written\n", files={"sub/b": ""})
+    yield saved("/dev/stdout", 2, "", "test-report: --save /dev/stdout is standard output\n")
+    yield saved("a", 2, "", "test-report: --json ./a and --save a are one file\n", options=["--json", "./a"],
+                files={"a": "old"}, after={"a": "old"})
+    for paths in ([], ["-"], ["red.jsonl"]):
+        yield refused(["--save", "a", *paths], f"--save a: {FILES_UNSAVED}", files={"a": "old", "red.jsonl": RED},
+                      after={"a": "old"})
+    message = f"test-report: --save a: {COMMAND_UNSAVED}\n"
+    yield command("touch ran", 2, "", message, ["--save", "a"], files={"a": "old"}, after={"a": "old", "ran": None})
+    yield saved("a", 2, "", message, variables={"RUSTC_BOOTSTRAP": "1"}, files={"a": "old"}, after={"a": "old"})
+    not_started = Parts(["the command could not be started: ", "\noutcome failed\n"])
+    end = '{"type":"command","event":"ended","error":"No such file or directory (os error 2)"}\n'
+    yield command(["./cargo", "test"], 1, not_started, "", ["--save", "a"], after={"a": SAVED_START + end})
+
+
 def rows():
     """Returns all rows."""
     kinds = (forms, several_files, limits, outputs, levels, slow_tests, annotations, colours, progress, others, streams,
-             files, links, devices, conflicts, commands, surroundings, added_arguments)
+             files, links, devices, conflicts, commands, surroundings, added_arguments, saved_runs)
     return [row for kind in kinds for row in kind()]
