@@ -3,7 +3,7 @@ use Rattle.std.proofs.Common.{◌≡◌, ◌∙◌, ℕ, List, [], ◌∷◌, �
 use Rattle.std.specs.Prelude.{◌&&◌, ◌||◌, is_none, is_some, unwrap_or}
 use Rattle.std.proofs.lemmas.List.Sums.{sum_by-append}
 use Rattle.run_events_results.specs.declared.results.CancelReason.{CancelReason}
-use Rattle.test_report_events.specs.Event.{Cancels, CommandOver, CommandView, EndsUnstarted, EventView, IsCutOff, ProgramDisagrees}
+use Rattle.test_report_events.specs.Event.{Cancels, CommandView, EndsUnstarted, EventView, IsCutOff, ProgramDisagrees}
 use Rattle.test_report_events.specs.Program.{CommandBegins, CommandEnds, CommandIsCancelled, ProgramEnds, ProgramLineView, ProgramStartView, ProgramStarts}
 use Rattle.test_report_events.specs.declared.program.ProgramEnd.{ProgramEnd}
 use Rattle.test_report_events.specs.declared.program.ProgramEnd.TheVariants.{Signal, Status}
@@ -14,9 +14,9 @@ use Rattle.std.specs.Option.{option_map_or}
 use Rattle.test_report_run_notes.specs.Note.{NoteView}
 use Rattle.test_report_run.specs.FileEnd.{file_notes, with_command}
 use Rattle.test_report_run.specs.Run.{is_cause, notes_at}
-use Rattle.test_report_programs.specs.Lines.{OverView, ProgramView, ProgramsState, ProgramsStep, all_told, closed, command_of, ended, events_taken, file_told, is_start, is_zero, line_told, may_be_cancelled, program_lost, program_over, program_told, programs_start, same, settled, settled_if, started, told, told_if, told_program, with_notes}
+use Rattle.test_report_programs.specs.Lines.{OverView, ProgramView, ProgramsState, ProgramsStep, all_told, closed, ended, events_taken, file_told, is_start, is_zero, line_told, may_be_cancelled, program_lost, program_over, program_told, programs_start, same, settled, settled_if, started, told, told_if, told_program, with_notes}
 use Rattle.test_report_laws.proofs.ProgramCauses.{Known, known-settled, known-told, lines-keep, program-shows-after, unstarted-shows}
-use Rattle.test_report_laws.proofs.ProgramSteps.{either-keeps, ended-keeps, lost-keeps, settled-keeps, started-keeps, with_over}
+use Rattle.test_report_laws.proofs.ProgramSteps.{command-keeps, either-keeps, ended-keeps, lost-keeps, settled-keeps, started-keeps, with_over}
 use Rattle.test_report_laws.specs.Programs.{FailedEndShows, IsBad, IsKnown, LineOf, causes_in, end_line, lines_told, whole_file_told}
 use Rattle.test_report_laws.specs.Run.{says_failed}
 
@@ -99,8 +99,7 @@ waits-program past CommandBegins t w = waits-settled past t w
 waits-program past (CommandIsCancelled reason) t w = waits-settled past (told_if t (option_map Cancels reason)) (waits-cancel past t reason w)
 waits-program past (CommandEnds end error reason) t w =
     let cancelled = told_if t (option_map Cancels reason) in
-    let last = program_lost (settled cancelled) in
-    shows-told past last (CommandOver (command_of end error))
+    command-keeps (Shows past) (λ t e q. shows-told past t e) (λ t l. l) (λ t p l. l) (λ t o l. l) (λ t l. l) end error (program_lost (settled cancelled))
     (shows-lost past (settled cancelled) (waits-settled past cancelled (waits-cancel past t reason w)))
 
 -- the next line settles it

@@ -5,7 +5,8 @@ use Rattle.std.specs.Str.Lines.{lines}
 use Rattle.run_events_results.specs.declared.results.CancelReason.{CancelReason}
 use Rattle.test_report_events.specs.Event.{AllEndEarly, Cancels, CommandOver, EndsUnstarted, EventView, HeadingLine, ProgramDisagrees, ProgramFaultView}
 use Rattle.test_report_events.specs.Program.{CommandBegins, CommandEnds, CommandIsCancelled, ProgramEnds, ProgramLineView, ProgramStartView, ProgramStarts}
-use Rattle.test_report_programs.specs.Lines.{OverView, ProgramView, ProgramsStep, all_told, command_of, done, ended, fault_of, is_zero, known_end, lost_fault, may_be_cancelled, new_program, printed, program_lost, program_over, program_told, settled, started, told, told_if, told_program, unknown_end, without_program}
+use Rattle.test_report_programs.specs.Lines.{OverView, ProgramView, ProgramsStep, all_told, command_of, command_over, done, ended, ends_again, fault_of, is_zero, known_end, lost_fault, may_be_cancelled, new_program, printed, program_lost, program_over, program_told, settled, started, told, told_if, told_program, unknown_end, without_program}
+use Rattle.test_report_events.specs.declared.program.ProgramEnd.{ProgramEnd}
 use Rattle.test_report_laws.specs.Run.{says_failed}
 
 -- another program runs
@@ -78,6 +79,11 @@ module _ (P : ProgramsStep → Type 0)
   started-keeps p t l =
       starts (told (program_lost t) (HeadingLine p.name p.path)) p (quiet (program_lost t) (HeadingLine p.name p.path) refl (lost-keeps t l))
 
+  pub command-keeps : (end : Option ProgramEnd) (error : Option (List ℕ)) (t : ProgramsStep) → P t → P (command_over end error t)
+  command-keeps end error t l =
+      let over = CommandOver (command_of end error) in
+      either-keeps (ends_again t.state end) t (done (told t over)) l (dones (told t over) (quiet t over refl l))
+
   program-keeps : (line : ProgramLineView) (t : ProgramsStep) → P t → P (program_told line t)
   program-keeps (ProgramStarts p) t l = started-keeps p (settled t) (settled-keeps t l)
   program-keeps (ProgramEnds None stderr) t l = lost-keeps (settled t) (settled-keeps t l)
@@ -86,9 +92,8 @@ module _ (P : ProgramsStep → Type 0)
   program-keeps (CommandIsCancelled reason) t l = settled-keeps (told_if t (option_map Cancels reason)) (cancel-keeps reason t l)
   program-keeps (CommandEnds end error reason) t l =
       let cancelled = told_if t (option_map Cancels reason) in
-      let last = program_lost (settled cancelled) in
-      dones (told last (CommandOver (command_of end error)))
-      (quiet last (CommandOver (command_of end error)) refl (lost-keeps (settled cancelled) (settled-keeps cancelled (cancel-keeps reason t l))))
+      command-keeps end error (program_lost (settled cancelled))
+      (lost-keeps (settled cancelled) (settled-keeps cancelled (cancel-keeps reason t l)))
 
   pub line-keeps : (counts : Bool) (line : Option ProgramLineView) (t : ProgramsStep) → P t → P (told_program counts line t)
   line-keeps false line t l = l

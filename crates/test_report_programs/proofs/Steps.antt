@@ -9,7 +9,7 @@ use Rattle.test_report_events.specs.declared.program.ProgramEnd.{ProgramEnd}
 use Rattle.test_report_run_notes.specs.Note.{NoteView}
 use Rattle.test_report_run.specs.FileEnd.{after_file, file_notes, with_command}
 use Rattle.test_report_run.specs.Run.{RunState, after, notes_at}
-use Rattle.test_report_programs.specs.Lines.{OverView, ProgramView, ProgramsState, ProgramsStep, all_told, closed, command_of, done, events_taken, fault_of, file_told, is_counted, is_start, judged, kept, known_end, line_told, lost_fault, program_lost, program_told, programs_start, same, settled, settled_if, step, told, told_if, told_program, unknown_end, with_notes, with_run, without_program}
+use Rattle.test_report_programs.specs.Lines.{OverView, ProgramView, ProgramsState, ProgramsStep, all_told, closed, command_of, command_over, done, ends_again, events_taken, fault_of, file_told, is_counted, is_start, judged, kept, known_end, line_told, lost_fault, program_lost, program_told, programs_start, same, settled, settled_if, step, told, told_if, told_program, unknown_end, with_notes, with_run, without_program}
 
 -- an event of the run, by what the run does
 pub told-by : (t : ProgramsStep) (run : RunState) (e : EventView) (starts : Bool) (notes : List NoteView) → starts ≡ is_start e
@@ -76,14 +76,31 @@ pub told-quiet : (t : ProgramsStep) (e : EventView) (run : RunState) → is_star
     → with_run run t ≡ told t e
 told-quiet t e run still silent next = sym (kept-nothing (with_run run t)) ∙ told-by t run e false [] (sym still) (sym silent) next
 
--- the command ended
-pub command-over : (t0 t1 t2 t3 : ProgramsStep) (run : RunState) (end : Option ProgramEnd) (error : Option (List ℕ)) (reason : Option CancelReason)
-    (view : CommandView) → t1 ≡ told_if t0 (option_map Cancels reason) → t2 ≡ settled t1 → t3 ≡ program_lost t2 → view ≡ command_of end error
-    → run ≡ after t3.state.run (CommandOver view) → done (with_run run t3) ≡ program_told (CommandEnds end error reason) t0
-command-over t0 t1 t2 t3 run end error reason view cancelled settles lost ends next =
+-- what comes before the end of the command
+before-over : (t0 t1 t2 t3 : ProgramsStep) (end : Option ProgramEnd) (error : Option (List ℕ)) (reason : Option CancelReason)
+    → t1 ≡ told_if t0 (option_map Cancels reason) → t2 ≡ settled t1 → t3 ≡ program_lost t2
+    → command_over end error t3 ≡ program_told (CommandEnds end error reason) t0
+before-over t0 t1 t2 t3 end error reason cancelled settles lost =
+    ap (command_over end error) (lost ∙ ap program_lost (settles ∙ ap settled cancelled))
+
+-- the command ended before, and says nothing more
+command-again : (t0 t1 t2 t3 : ProgramsStep) (end : Option ProgramEnd) (error : Option (List ℕ)) (reason : Option CancelReason)
+    → t1 ≡ told_if t0 (option_map Cancels reason) → t2 ≡ settled t1 → t3 ≡ program_lost t2 → ends_again t3.state end ≡ true
+    → t3 ≡ program_told (CommandEnds end error reason) t0
+command-again t0 t1 t2 t3 end error reason cancelled settles lost is =
+    sym (ap (λ b. cond b t3 (done (told t3 (CommandOver (command_of end error))))) is)
+    ∙ before-over t0 t1 t2 t3 end error reason cancelled settles lost
+
+-- the command ends
+pub command-ends : (t0 t1 t2 t3 : ProgramsStep) (run : RunState) (end : Option ProgramEnd) (error : Option (List ℕ)) (reason : Option CancelReason)
+    (view : CommandView) → t1 ≡ told_if t0 (option_map Cancels reason) → t2 ≡ settled t1 → t3 ≡ program_lost t2 → ends_again t3.state end ≡ false
+    → view ≡ command_of end error → run ≡ after t3.state.run (CommandOver view)
+    → done (with_run run t3) ≡ program_told (CommandEnds end error reason) t0
+command-ends t0 t1 t2 t3 run end error reason view cancelled settles lost is ends next =
     ap done (told-quiet t3 (CommandOver view) run refl refl next)
     ∙ ap (λ v. done (told t3 (CommandOver v))) ends
-    ∙ ap (λ t. done (told t (CommandOver (command_of end error)))) (lost ∙ ap program_lost (settles ∙ ap settled cancelled))
+    ∙ sym (ap (λ b. cond b t3 (done (told t3 (CommandOver (command_of end error))))) is)
+    ∙ before-over t0 t1 t2 t3 end error reason cancelled settles lost
 
 -- the end of a file
 pub file-over : (s0 s2 : ProgramsState) (t1 : ProgramsStep) (run : RunState) (notes all : List NoteView) (command : Option CommandView) → t1 ≡ closed s0

@@ -257,6 +257,14 @@ command_of (Some (Status code)) error = with_words (in_32_bits code) error
 abbrev pub done : ProgramsStep → ProgramsStep
 done t = record t { state = record (t.state) { is_done = true } }
 
+-- the command ended before, and its end with status 0 says nothing
+abbrev pub ends_again : ProgramsState → Option ProgramEnd → Bool
+ends_again s end = s.is_done && option_map_or is_zero end false
+
+-- the command ended so. Of a later end than the first one only a failure counts
+abbrev pub command_over : Option ProgramEnd → Option (List ℕ) → ProgramsStep → ProgramsStep
+command_over end error t = if ends_again t.state end then t else done (told t (CommandOver (command_of end error)))
+
 -- a line of a program or of the command, where such lines count
 abbrev pub program_told : ProgramLineView → ProgramsStep → ProgramsStep
 program_told (ProgramStarts p) t = started p (settled t)
@@ -265,7 +273,7 @@ program_told (ProgramEnds (Some end) stderr) t = ended (record { end = end; stde
 program_told CommandBegins t = settled t
 program_told (CommandIsCancelled reason) t = settled (told_if t (option_map Cancels reason))
 program_told (CommandEnds end error reason) t =
-    done (told (program_lost (settled (told_if t (option_map Cancels reason)))) (CommandOver (command_of end error)))
+    command_over end error (program_lost (settled (told_if t (option_map Cancels reason))))
 
 -- the event counts where lines of programs count. Headings and failures of cargo are prints there, and prints say nothing
 abbrev pub is_counted : EventView → Bool

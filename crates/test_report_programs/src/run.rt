@@ -94,7 +94,7 @@ impl ProgramRun {
         self.run.on_command_started(names);
     }
 
-    /// Notes that the run is cancelled from here on.
+    /// Notes that the run is cancelled from here on, up to the end of the file.
     pub fn on_cancelled(&mut self, reason: CancelReason)
         ensures { spec.step (programs_state self.new) [] ≡ spec.told (spec.same (programs_state self.old)) (Cancels reason) }
     {
@@ -310,7 +310,8 @@ impl ProgramRun {
         }
     }
 
-    /// Takes how the command ended, the error that it reported, and why the run was cancelled.
+    /// Takes how the command ended, the error that it reported, and why the run was cancelled. Of a later end than the
+    /// first one only a failure counts.
     fn end_command(
         &mut self,
         alloc: Global,
@@ -326,10 +327,20 @@ impl ProgramRun {
         self.cancel(reason);
         self.settle(alloc, notes)?;
         self.lose_program(alloc, notes)?;
+        if self.ends_again(end) {
+            return Ok(());
+        }
         let command = command_end(alloc, end, error)?;
         self.run.on_command_ended(Some(command));
         self.is_done = true;
         Ok(())
+    }
+
+    /// Returns true if the command ended before, and `end` is an end with status 0.
+    fn ends_again(&self, end: Option<ProgramEnd>) -> bool
+        ensures { result ≡ spec.ends_again (programs_state self.now) end }
+    {
+        self.is_done && end.is_some_and(is_zero)
     }
 
     /// Cancels the run, if there is a reason.

@@ -71,6 +71,7 @@ begun r = record r {
   of_command = false;
   command = None;
   names = [];
+  cancel = None;
   causes_at_file = r.causes;
   causes_at_cargo = r.causes;
   file_names = drop 1 r.file_names;

@@ -59,7 +59,7 @@ pub record RunState : Type 0 where
   -- the lines are the output of a command, and how it ended
   pub of_command : Bool
   pub command : Option CommandView
-  -- the names that are known of the suites of the command, and why the run is cancelled, if it is
+  -- the names that are known of the suites of the command, and why the run is cancelled up to the end of the file, if it is
   pub names : SuiteNames
   pub cancel : Option CancelReason
   -- the tests that run, how many tests started, and how many ended

@@ -79,7 +79,7 @@ pub struct TestRun {
     /// The names that are known of the suites of the command.
     names: SuiteNames,
 
-    /// Why the run is cancelled, if it is.
+    /// Why the run is cancelled up to the end of the file, if it is.
     cancel: Option<CancelReason>,
 
     running: Running,
@@ -231,6 +231,7 @@ impl TestRun {
         self.of_command = false;
         self.command = None;
         self.names = SuiteNames::new(alloc);
+        self.cancel = None;
         self.causes_at_file = self.causes;
         self.causes_at_cargo = self.causes;
         self.file_names.pop_front();

@@ -118,7 +118,7 @@ impl SuiteName {
 }
 
 /// Returns the name that texts give a suite: its key, or else the heading, or else the part of its first
-/// test's name before the first `$`. The name is shared with the heading.
+/// test's name before the first `$`. No other suite shares it.
 fn given_name(
     alloc: Global,
     key: &Option<String>,
@@ -132,7 +132,7 @@ fn given_name(
         return Ok(Some(shared(alloc, key.as_str())?));
     }
     if let Some(heading) = heading {
-        return Ok(Some(heading.clone()?));
+        return Ok(Some(shared(alloc, heading.as_str())?));
     }
     match before_dollar(first_test) {
         Some(name) => Ok(Some(shared(alloc, name)?)),

@@ -149,7 +149,7 @@ pub struct RunReader<'a, 'line, W: Write> {
     pass_on: PassOn,
     interrupt: &'a Interrupt,
 
-    /// Why the run is cancelled, as far as the report knows.
+    /// Why the run is cancelled, as far as the report knows. It forgets this at the end of a file.
     cancelled: Option<CancelReason>,
 
     /// True if the line of progress is wanted.
@@ -197,6 +197,7 @@ impl<'a, 'line, W: Write> RunReader<'a, 'line, W> {
                 for (place, path) in files.iter().enumerate() {
                     if place > 0 {
                         self.report.end_file(&mut self.streams.output)?;
+                        self.cancelled = None;
                     }
                     self.read_file(path)?;
                 }

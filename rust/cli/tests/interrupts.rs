@@ -384,3 +384,22 @@ fn a_command_starts_with_the_default_action_of_both_signals() {
         assert_eq!(output.status.code(), Some(1));
     }
 }
+
+#[test]
+fn after_a_signal_the_tests_of_later_files_were_stopped_too() {
+    let folder = Folder::new("later-files");
+    let later = folder.file("later.jsonl");
+    fs::write(&later, FAILED).expect("the folder is there");
+    let mut running = start(&["--progress", "always", "-", &later]);
+    let written = running.stdin.write_all(FAILED.as_bytes());
+    written.expect("the program reads");
+    let (_, stdout) = read_until(running.stdout, "    Error: no such currency\n");
+    send("INT", &running.child);
+    let stderr = wait_for(running.stderr, STILL_READING);
+    drop(running.stdin);
+    let (text, _) = read_until(stdout, "outcome failed\n");
+    assert!(text.contains("\n     STOPPED suite 1 pays\n"), "{text}");
+    assert!(text.contains("\n     STOPPED suite 2 pays\n"), "{text}");
+    assert_eq!(end_of(running.child).code(), Some(1));
+    drop(stderr);
+}

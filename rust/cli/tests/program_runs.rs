@@ -497,3 +497,69 @@ fn many_errors_of_the_compiler_take_time_in_proportion() {
     // Each error compared with each other one takes ten times as long.
     assert!(start.elapsed().as_secs() < 10);
 }
+
+#[test]
+fn a_command_that_failed_did_not_end_well_later() {
+    let passing = [PASSING, &ended("\"status\":0", "")].concat();
+    for ends in [[FAILED, PASSED], [PASSED, FAILED]] {
+        let text = report("text", &[STARTED, &passing, &ends.concat()]);
+        assert!(text.contains("outcome failed"), "{text}");
+    }
+    let text = report("text", &[STARTED, &passing, PASSED, PASSED]);
+    assert!(text.contains("outcome success"), "{text}");
+}
+
+#[test]
+fn a_run_that_was_cancelled_stops_no_test_of_another_run() {
+    let folder = Folder::new("cancelled-and-not");
+    let (cancelled, crashed) = (folder.file("cancelled.jsonl"), folder.file("crashed.jsonl"));
+    let end =
+        "{\"type\":\"command\",\"event\":\"ended\",\"signal\":2,\"cancelled\":\"Interrupt\"}\n";
+    let aborted = ended("\"signal\":6", "");
+    fs::write(&cancelled, [STARTED, LEDGER, CANCELLED, end].concat()).expect("it can be written");
+    fs::write(&crashed, [STARTED, LEDGER, &aborted, FAILED].concat()).expect("it can be written");
+    let output = run("test-report", &[&cancelled, &crashed], b"");
+    let text = String::from_utf8_lossy(&output.stdout);
+    assert_eq!(text.matches("\n     STOPPED ledger").count(), 2, "{text}");
+    assert_eq!(text.matches("\n       CRASH ledger").count(), 2, "{text}");
+    assert!(text.ends_with("outcome failed\n"), "{text}");
+}
+
+#[test]
+fn suites_of_one_name_keep_their_own_tests() {
+    let keyless = r#"{"type":"suite","event":"started","test_count":1}
+{"type":"test","event":"started","name":"bank::pays$first"}
+"#;
+    let keyed = r#"{"type":"suite","event":"started","test_count":1,"nextest":{"crate":"bank","test_binary":"pays","kind":"test"}}
+{"type":"test","event":"started","name":"bank::pays$second"}
+{"type":"test","event":"ok","name":"bank::pays$second"}
+{"type":"suite","event":"ok","passed":1,"failed":0,"nextest":{"crate":"bank","test_binary":"pays","kind":"test"}}
+"#;
+    let end = r#"{"type":"test","event":"failed","name":"bank::pays$first"}
+{"type":"suite","event":"failed","passed":0,"failed":1}
+"#;
+    let json: serde_json::Value =
+        serde_json::from_str(&report("json", &[keyless, keyed, end])).expect("it is JSON");
+    let names = |suite: &serde_json::Value| -> Vec<String> {
+        let tests = suite["tests"].as_array().expect("a suite has tests");
+        tests.iter().map(|test| test["name"].to_string()).collect()
+    };
+    let suites: Vec<_> = json["suites"]
+        .as_array()
+        .expect("there are suites")
+        .iter()
+        .map(|suite| {
+            (
+                suite["name"].to_string(),
+                suite["numbers"]["failed"].to_string(),
+                names(suite),
+            )
+        })
+        .collect();
+    let name = || "\"bank::pays\"".to_string();
+    let wanted = [
+        (name(), "0".to_string(), vec!["\"second\"".to_string()]),
+        (name(), "1".to_string(), vec!["\"first\"".to_string()]),
+    ];
+    assert_eq!(suites, wanted);
+}

@@ -27,7 +27,7 @@ impl TestRun {
     }
 
     /// Notes that the run is cancelled for this reason, also if it was for another one. The notes of the tests that
-    /// become known from now on have it. Nothing else of the run changes.
+    /// become known up to the end of the file have it. Nothing else of the run changes.
     pub fn on_cancelled(&mut self, reason: CancelReason)
         ensures takes { run_state self.new ≡ spec.after (run_state self.old) (Cancels reason) }
     {

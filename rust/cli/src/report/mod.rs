@@ -42,6 +42,7 @@ mod program_lines;
 mod short;
 mod slowest;
 mod stopped;
+mod suite_key;
 mod text;
 mod thread_panic;
 mod values;

@@ -8,16 +8,16 @@ use crate::report::numbers::Numbers;
 use crate::report::problem::{NO_TESTS, Problem, ProblemReason, ProblemSource};
 use crate::report::slowest::Slowest;
 use crate::report::stopped::stopped_words;
+use crate::report::suite_key::SuiteKey;
 use crate::report::whole_output::{
     MOST_BYTES_OF_TEXT, OutputRoom, PAGE_ROOM, SUMMARY_ROOM, WholeOutput,
 };
-use crate::report::words::{outcome_text, seconds_text, shown_name, suite_of, title};
+use crate::report::words::{outcome_text, seconds_text, shown_name, title};
 use deodarsieve::RunOutcome;
 use deodarsieve_run::{FailureKind, RunEnd, SuiteNote, TestNote, TestOutcome};
 use serde::ser::{SerializeMap, Serializer};
 use serde::{Serialize, ser};
 use serde_json::value::RawValue;
-use std::cmp::Ordering;
 use std::collections::BTreeMap;
 use std::rc::Rc;
 
@@ -267,22 +267,19 @@ impl TestModel {
     }
 }
 
-/// The name of an open suite, or of the tests outside of a suite, as a key. The tests of a suite share its name, which can
-/// be long. A comparison of a name with itself does not read it.
-#[derive(PartialEq, Eq)]
-struct SuiteKey(Option<Rc<String>>);
-
-impl PartialOrd for SuiteKey {
-    fn partial_cmp(&self, other: &SuiteKey) -> Option<Ordering> {
-        Some(self.cmp(other))
-    }
+/// A suite that has not ended, or the tests outside of a suite in a file that has not ended.
+struct OpenSuite {
+    /// The name, which keeps the key in use.
+    name: Option<Rc<String>>,
+    cases: Vec<CaseModel>,
 }
 
-impl Ord for SuiteKey {
-    fn cmp(&self, other: &SuiteKey) -> Ordering {
-        match (&self.0, &other.0) {
-            (Some(own), Some(other)) if Rc::ptr_eq(own, other) => Ordering::Equal,
-            (own, other) => own.cmp(other),
+impl OpenSuite {
+    /// Returns the suite that has this name, without cases.
+    fn new(name: Option<&Rc<String>>) -> OpenSuite {
+        OpenSuite {
+            name: name.cloned(),
+            cases: Vec::new(),
         }
     }
 }
@@ -303,8 +300,8 @@ pub(crate) struct ModelBuilder {
     page_room: OutputRoom,
     summary_room: OutputRoom,
 
-    /// The cases of the suites that have not ended, by their names. The end of a file ends all of them.
-    open: BTreeMap<SuiteKey, Vec<CaseModel>>,
+    /// The suites that have not ended, and that have cases. The end of a file ends all of them.
+    open: BTreeMap<SuiteKey, OpenSuite>,
 
     /// The suites that have ended.
     suites: Vec<SuiteModel>,
@@ -382,7 +379,7 @@ impl ModelBuilder {
     /// Keeps a stopped test.
     fn on_stopped(&mut self, test: &TestNote) {
         if self.wanted.all_tests {
-            let kind = TestKind::Stopped(stopped_words(suite_of(test), test));
+            let kind = TestKind::Stopped(stopped_words(test));
             let stopped = TestModel::of(test, kind);
             self.add(test.suite.as_ref(), CaseModel::Test(stopped));
         }
@@ -439,22 +436,25 @@ impl ModelBuilder {
         });
     }
 
-    /// Adds a case to the open suite of this name, or to a new one.
+    /// Adds a case to the suite that has this name.
     fn add(&mut self, name: Option<&Rc<String>>, case: CaseModel) {
-        let key = SuiteKey(name.cloned());
-        self.open.entry(key).or_default().push(case);
+        let open = self.open.entry(SuiteKey::of(name));
+        open.or_insert_with(|| OpenSuite::new(name))
+            .cases
+            .push(case);
     }
 
     /// Takes the end of a suite. The tests outside of a suite are left out if there are none.
     fn on_suite(&mut self, suite: &SuiteNote) {
-        let key = SuiteKey(suite.name.clone());
-        let cases = self.open.remove(&key).unwrap_or_default();
+        let name = suite.name.as_ref();
+        let open = self.open.remove(&SuiteKey::of(name));
         let numbers = Numbers::of_suite(suite);
-        if suite.name.is_none() && numbers.are_zero() {
+        if name.is_none() && numbers.are_zero() {
             return;
         }
+        let OpenSuite { name, cases } = open.unwrap_or_else(|| OpenSuite::new(name));
         self.suites.push(SuiteModel {
-            name: suite.name.clone(),
+            name,
             numbers,
             time: suite.time.map(Seconds),
             cases,

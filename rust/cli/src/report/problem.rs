@@ -126,18 +126,13 @@ impl<'a> Problem<'a> {
         }
     }
 
-    /// Adds which tests of a suite, or of none, were stopped. Those of a cancelled run are in the list of the form for
+    /// Adds which tests of its suite, or of none, were stopped. Those of a cancelled run are in the list of the form for
     /// people.
-    fn with_stopped(
-        self,
-        suite: Option<&str>,
-        stopped: &StoppedTests<'_>,
-        output: OutputDisplay,
-    ) -> Problem<'a> {
-        let tests = stopped.of_suite(suite);
+    fn with_stopped(self, stopped: &StoppedTests<'_>, output: OutputDisplay) -> Problem<'a> {
+        let tests = stopped.of_suite(self.suite);
         Problem {
             why_is_listed: tests.iter().any(|test| test.cancel.is_some()),
-            ..self.with_why(stopped_lines(suite, tests), output)
+            ..self.with_why(stopped_lines(tests), output)
         }
     }
 
@@ -164,7 +159,7 @@ impl<'a> Problem<'a> {
                 lacks_events: true,
                 ..problem
             },
-            Disagreement::OutsideSuite { .. } => problem.with_stopped(None, stopped, output),
+            Disagreement::OutsideSuite { .. } => problem.with_stopped(stopped, output),
             Disagreement::Command(CommandEnd::Error { words, .. }) => {
                 problem.with_why(rest_of_error(words), output)
             }
@@ -231,7 +226,7 @@ impl<'a> Problem<'a> {
         let (suite, count) = (&not_run.suite, not_run.not_run);
         let (shown, initial) = (name(suite), not_run.initial_run_count);
         let line = format!("{shown}: {count} of {initial} tests were not run");
-        Problem::new(Some(suite), "not run", line).with_stopped(Some(suite), stopped, output)
+        Problem::new(Some(suite), "not run", line).with_stopped(stopped, output)
     }
 }
 

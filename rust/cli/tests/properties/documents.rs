@@ -161,7 +161,7 @@ fn failed_case(mut case: Element, failure: &Failure, shown: &ShownFailure) -> El
 
 /// Returns a suite of JUnit's XML.
 fn junit_suite(suite: &Suite<'_>, notes: &Notes<'_>) -> Element {
-    let name = allowed(&shown(suite.name.unwrap_or("(no suite)")));
+    let name = allowed(&shown(suite.name.map_or("(no suite)", |name| name)));
     let class = name.replace('.', "_");
     let cases: Vec<_> = suite
         .notes
@@ -352,7 +352,7 @@ fn suite_row(suite: &Suite<'_>) -> Option<String> {
     } else {
         words.join(", ")
     };
-    let name = shown(suite.name.unwrap_or("(no suite)"));
+    let name = shown(suite.name.map_or("(no suite)", |name| name));
     Some(format!("{name}{bar}{words}{}", cell(over.time)))
 }
 

@@ -8,6 +8,7 @@ use deodarsieve_run::{
     ProgramLine, ProgramRun, RunEnd, SaidNumbers, TestNote, TestOutcome, TestResult, TestRun,
 };
 use std::collections::BTreeMap;
+use std::rc::Rc;
 
 /// The notes of a run, in the order in which a report shows them, and its end.
 pub struct Facts {
@@ -41,9 +42,10 @@ struct Told {
     held: Vec<Note>,
 }
 
-/// The tests and problems of a suite, and its own note if the suite is over.
+/// The tests and problems of a suite, and its own note if the suite is over. Its notes share the name, and no other
+/// suite does.
 pub struct Suite<'a> {
-    pub name: Option<&'a str>,
+    pub name: Option<&'a Rc<String>>,
     pub notes: Vec<&'a Note>,
     pub over: Option<&'a Note>,
 }
@@ -155,7 +157,9 @@ impl Facts {
             let Some(name) = suite_of_note(note) else {
                 continue;
             };
-            let place = open.iter().position(|suite| suite.name == name);
+            let place = open
+                .iter()
+                .position(|suite| suite.name.map(Rc::as_ptr) == name.map(Rc::as_ptr));
             if let Note::Suite(suite) = note {
                 let is_empty =
                     suite.stats.finished_count == 0 && suite.skipped + suite.not_run == 0;
@@ -337,17 +341,17 @@ pub fn crash_end(end: ProgramEnd) -> String {
 }
 
 /// Returns the name of the suite in which a document has a note. The tests outside of suites are in one without a name.
-fn suite_of_note(note: &Note) -> Option<Option<&str>> {
+fn suite_of_note(note: &Note) -> Option<Option<&Rc<String>>> {
     match note {
-        Note::Test(test) => Some(suite_of(test)),
-        Note::Suite(suite) => Some(suite.name.as_deref().map(String::as_str)),
+        Note::Test(test) => Some(test.suite.as_ref()),
+        Note::Suite(suite) => Some(suite.name.as_ref()),
         Note::NotRun(_) | Note::Disagreement(_) => suite_of_problem(note).map(Some),
         Note::Flaky(_) => None,
     }
 }
 
 /// Returns the name of the suite of a problem.
-pub fn suite_of_problem(note: &Note) -> Option<&str> {
+pub fn suite_of_problem(note: &Note) -> Option<&Rc<String>> {
     match note {
         Note::NotRun(not_run) => Some(&not_run.suite),
         Note::Disagreement(

@@ -129,7 +129,7 @@ fn suite_value(suite: &Suite<'_>) -> Value {
         _ => None,
     });
     let mut value = json!({"tests": tests.collect::<Vec<_>>()});
-    add(&mut value, "name", suite.name);
+    add(&mut value, "name", suite.name.map(|name| name.as_str()));
     if let Some(Note::Suite(over)) = suite.over {
         value["numbers"] = numbers(&over.stats, over.crashed, over.skipped, over.not_run);
         add(&mut value, "time", time(over.time));
@@ -144,7 +144,11 @@ fn problem_value(note: &Note) -> Value {
         _ => "disagreement",
     };
     let mut value = json!({"kind": kind, "line": problem_line(note)});
-    add(&mut value, "suite", suite_of_problem(note));
+    add(
+        &mut value,
+        "suite",
+        suite_of_problem(note).map(|name| name.as_str()),
+    );
     value
 }
 

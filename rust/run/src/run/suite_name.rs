@@ -78,7 +78,7 @@ impl SuiteName {
 }
 
 /// Returns the name that texts give a suite: its key, or else the heading, or else the part of its first
-/// test's name before the first `$`. The name is shared with the heading.
+/// test's name before the first `$`. No other suite shares it.
 fn given_name(
     key: &Option<String>,
     heading: &Option<Rc<String>>,
@@ -88,7 +88,7 @@ fn given_name(
         return Some(shared(key.as_str()));
     }
     if let Some(heading) = heading {
-        return Some(heading.clone());
+        return Some(shared(heading.as_str()));
     }
     before_dollar(first_test).map(shared)
 }
