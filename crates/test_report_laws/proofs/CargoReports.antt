@@ -11,7 +11,7 @@ use Rattle.test_report_events.specs.declared.event.CargoFailure.{CargoFailure}
 use Rattle.test_report_run_notes.specs.Note.{CargoSays, CargoView, Disagrees, NoteView, ended_well}
 use Rattle.test_report_laws.proofs.Sums.{sum-map, sum-none, sum-ones}
 use Rattle.test_report_run.specs.Events.{is_after_report, is_event}
-use Rattle.test_report_run.specs.Others.{after_failure, last_cause}
+use Rattle.test_report_run.specs.Others.{after_failure}
 use Rattle.test_report_run.specs.FileEnd.{at_end, held_reports, held_told, reports_told}
 use Rattle.test_report_run.specs.Run.{RunState, Step, cargo_fails, disagrees, notes_at, report_told, settled, settled_at, step, told, with_report}
 
@@ -46,7 +46,7 @@ only-same r = record { reported = r.reported; held = r.held; causes = r.causes; 
 
 -- the last failure of cargo becomes known, or waits for the end of the command
 abbrev pub whole : RunState → Bool → CargoView → CargoView
-whole r heard report = record report { cause = last_cause r.others; lacks_events = report.lacks_events && not heard }
+whole r heard report = record report { cause = r.others.last_cause; lacks_events = report.lacks_events && not heard }
 
 only-report : (r : RunState) (heard : Bool) (report : CargoView) → OnlyReports r (report_told r heard report)
 only-report r heard report = cond_both r.of_command (step (record r { reported = None; held = r.held ++ whole r heard report ∷ [] }) [])

@@ -17,7 +17,7 @@ use Rattle.test_report_run.specs.Headings.{NamedPaths, headings_of, shown_by, wi
 use Rattle.test_report_run.specs.LongestEnd.{joined, with_kept}
 use Rattle.test_report_run.specs.OpenSuites.{suites_of}
 use Rattle.test_report_run.specs.Over.{EarlyEnd, early_notes, is_among, last_notes, nothing_known}
-use Rattle.test_report_run.specs.Others.{OthersView, after_failure, after_heading, after_print, event_place, last_cause, no_others, others_view}
+use Rattle.test_report_run.specs.Others.{OthersView, after_failure, after_heading, after_print, event_place, no_others, others_view}
 use Rattle.test_report_run.specs.Prints.{cut, lines_of}
 use Rattle.test_report_run.specs.Running.{RunningView, is_of, is_same, place_of_end, running_at, tests_of, with_slow}
 use Rattle.test_report_run.specs.Name.{before_dollar}
@@ -379,7 +379,7 @@ printed r line plain = record r { others = after_print r.others line plain; rece
 -- lack events
 abbrev pub report_told : RunState → Bool → CargoView → Step
 report_told r heard report =
-    let whole = record report { cause = last_cause r.others; lacks_events = report.lacks_events && not heard } in
+    let whole = record report { cause = r.others.last_cause; lacks_events = report.lacks_events && not heard } in
     if r.of_command then step (record r { reported = None; held = r.held ++ whole ∷ [] }) []
     else step (record r { reported = None }) (Disagrees (CargoSays whole) ∷ [])
 

@@ -4,7 +4,7 @@ ghost use Rattle.std.specs.Prelude.{◌≡◌, ◌==◌, ◌++◌, ◌∷◌, []
 ghost use Rattle.std.specs.List.{position};
 ghost use Rattle.test_report_run_notes.specs.Note.{text_view};
 ghost use Rattle.test_report_run.specs.Others as spec;
-ghost use Rattle.test_report_run.specs.Others.{others_view, reported_view};
+ghost use Rattle.test_report_run.specs.Others.{others_view};
 ghost use Rattle.test_report_run.specs.Prints.{no_prints, prints_view};
 ghost use Rattle.test_report_run.specs.declared.others.Stage.TheVariants as stage;
 
@@ -29,24 +29,21 @@ pub(crate) struct PrintPlace {
 /// The place of an event of a file among its other lines.
 #[derive(Clone, Copy, Debug, Default, PartialEq, Eq)]
 pub(crate) struct EventPlace {
-    /// The number of failures of cargo that came before it.
-    failures: usize,
+    /// The number of causes that came before it.
+    causes: usize,
 
     /// The number of headings that came before it.
     headings: usize,
 }
 
-/// A failure that cargo reported.
+/// The cause of a failure that cargo reported.
 #[derive(Drop)]
-pub(crate) struct Reported {
+pub(crate) struct Cause {
     /// The number of headings that came before it.
     headings: usize,
 
-    /// The line in which cargo names the cause, or its first 200 bytes. It follows the first `Caused by:` after the failure.
-    cause: Option<String>,
-
-    /// The same of the plain text of this line.
-    plain_cause: Option<String>,
+    /// Its line, which follows the first `Caused by:` after the failure, or the first 200 bytes of this line.
+    line: String,
 }
 
 /// How far the search for the cause of the last failure is.
@@ -73,10 +70,11 @@ pub(crate) struct Others {
 
     headings: usize,
 
-    /// The failures before the last one.
-    failures: Vec<Reported>,
+    /// The causes that cargo named of its failures.
+    causes: Vec<Cause>,
 
-    last_failure: Option<Reported>,
+    /// The plain text of the cause of the last failure, or its first 200 bytes.
+    last_cause: Option<String>,
     stage: Stage,
 }
 
@@ -89,8 +87,8 @@ impl Others {
             past: Vec::new(alloc),
             prints: Prints::new(alloc),
             headings: 0,
-            failures: Vec::new(alloc),
-            last_failure: None,
+            causes: Vec::new(alloc),
+            last_cause: None,
             stage: Stage::Over,
         }
     }
@@ -115,14 +113,14 @@ impl Others {
 
     /// Keeps the cause of the last failure.
     fn keep_cause(&mut self, alloc: Global, line: &str, plain: &str) -> Result<(), AllocError>
-        ensures { OnOk result (others_view self.new ≡ record (others_view self.old) {
-          last_failure = spec.with_cause stage.CausedBy (others_view self.old).last_failure line.now plain.now;
-        }) }
+        ensures { OnOk result (others_view self.new ≡ spec.with_cause stage.CausedBy (others_view self.old) line.now plain.now) }
     {
-        if let Some(failure) = &mut self.last_failure {
-            failure.cause = Some(String::from_str(alloc, shortened(line))?);
-            failure.plain_cause = Some(String::from_str(alloc, shortened(plain))?);
-        }
+        let line = String::from_str(alloc, shortened(line))?;
+        self.causes.push(Cause {
+            headings: self.headings,
+            line,
+        })?;
+        self.last_cause = Some(String::from_str(alloc, shortened(plain))?);
         Ok(())
     }
 
@@ -141,14 +139,7 @@ impl Others {
         ensures { OnOk result (others_view self.new ≡ spec.after_failure (others_view self.old)) }
     {
         self.end_part(alloc)?;
-        let failure = Reported {
-            headings: self.headings,
-            cause: None,
-            plain_cause: None,
-        };
-        if let Some(before) = std::mem::replace(&mut self.last_failure, Some(failure)) {
-            self.failures.push(before)?;
-        }
+        self.last_cause = None;
         self.stage = Stage::Failed;
         Ok(())
     }
@@ -179,12 +170,8 @@ impl Others {
     pub(crate) fn event_place(&self) -> EventPlace
         ensures { result ≡ spec.event_place (others_view self.now) }
     {
-        let failures = match &self.last_failure {
-            Some(_) => self.failures.len() + 1,
-            None => self.failures.len(),
-        };
         EventPlace {
-            failures,
+            causes: self.causes.len(),
             headings: self.headings,
         }
     }
@@ -215,7 +202,7 @@ impl Others {
         self.part_at(at.part).last_from(alloc, at.print)
     }
 
-    /// Returns the cause of the first failure after an event, unless a heading came between them.
+    /// Returns the first cause after an event, unless a heading came between them.
     pub(crate) fn cause_after(
         &self,
         alloc: Global,
@@ -223,38 +210,19 @@ impl Others {
     ) -> Result<Option<String>, AllocError>
         ensures { IfOk result (λ cause. text_view cause ≡ spec.cause_after (others_view self.now) at) }
     {
-        match self.failure_at(at.failures) {
-            Some(failure) if failure.headings == at.headings => match &failure.cause {
-                Some(cause) => Ok(Some(cause.clone()?)),
-                None => Ok(None),
-            },
+        match self.causes.get(at.causes) {
+            Some(cause) if cause.headings == at.headings => Ok(Some(cause.line.clone()?)),
             _ => Ok(None),
         }
     }
 
     /// Returns the plain text of the cause of the last failure.
     pub(crate) fn last_cause(&self) -> Result<Option<String>, AllocError>
-        ensures { IfOk result (λ cause. text_view cause ≡ spec.last_cause (others_view self.now)) }
+        ensures { IfOk result (λ cause. text_view cause ≡ (others_view self.now).last_cause) }
     {
-        match &self.last_failure {
-            Some(
-                Reported {
-                    plain_cause: Some(cause),
-                    ..
-                },
-            ) => Ok(Some(cause.clone()?)),
-            _ => Ok(None),
-        }
-    }
-
-    /// Returns the failure before which `earlier` others came.
-    fn failure_at(&self, earlier: usize) -> Option<&Reported>
-        ensures { option_map (λ f. reported_view f.now) result ≡ slice_get (spec.all_failures (others_view self.now)) earlier }
-    {
-        if earlier == self.failures.len() {
-            self.last_failure.as_ref()
-        } else {
-            self.failures.get(earlier)
+        match &self.last_cause {
+            Some(cause) => Ok(Some(cause.clone()?)),
+            None => Ok(None),
         }
     }
 }

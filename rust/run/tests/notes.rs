@@ -181,6 +181,34 @@ fourth
 }
 
 #[test]
+fn a_failure_that_a_child_of_a_test_prints_does_not_hide_the_cause_of_a_crash() {
+    let cause_of_crash = |heading: &str| {
+        let (notes, _) = read(&format!(
+            r#"{{ "type": "suite", "event": "started", "test_count": 1 }}
+{{ "type": "test", "event": "started", "name": "builds" }}
+error: could not compile `app` (lib) due to 1 previous error
+{heading}error: test failed, to rerun pass `--test builds`
+
+Caused by:
+  process didn't exit successfully: `builds` (signal: 15, SIGTERM: termination signal)
+error: 1 target failed:
+    `--test builds`
+"#
+        ));
+        let (_, crash) = notes.iter().find_map(crash_of).expect("the test crashed");
+        crash.cause.clone()
+    };
+    assert_eq!(
+        cause_of_crash("").as_deref(),
+        Some(
+            "  process didn't exit successfully: `builds` (signal: 15, SIGTERM: termination signal)"
+        )
+    );
+    let heading = "     Running tests/later.rs (target/debug/deps/later-0123456789abcdef)\n";
+    assert_eq!(cause_of_crash(heading), None);
+}
+
+#[test]
 fn a_print_in_front_of_a_heading_is_of_the_test_that_ran() {
     let (notes, _) = read(
         r#"{ "type": "suite", "event": "started", "test_count": 1 }

@@ -21,24 +21,21 @@ pub(crate) struct PrintPlace {
 /// The place of an event of a file among its other lines.
 #[derive(Clone, Copy, Debug, Default, PartialEq, Eq)]
 pub(crate) struct EventPlace {
-    /// The number of failures of cargo that came before it.
-    failures: usize,
+    /// The number of causes that came before it.
+    causes: usize,
 
     /// The number of headings that came before it.
     headings: usize,
 }
 
-/// A failure that cargo reported.
+/// The cause of a failure that cargo reported.
 #[derive(Clone)]
-pub(crate) struct Reported {
+pub(crate) struct Cause {
     /// The number of headings that came before it.
     headings: usize,
 
-    /// The line in which cargo names the cause, or its first 200 bytes. It follows the first `Caused by:` after the failure.
-    cause: Option<String>,
-
-    /// The same of the plain text of this line.
-    plain_cause: Option<String>,
+    /// Its line, which follows the first `Caused by:` after the failure, or the first 200 bytes of this line.
+    line: String,
 }
 
 /// How far the search for the cause of the last failure is.
@@ -65,10 +62,11 @@ pub(crate) struct Others {
 
     headings: usize,
 
-    /// The failures before the last one.
-    failures: Vec<Reported>,
+    /// The causes that cargo named of its failures.
+    causes: Vec<Cause>,
 
-    last_failure: Option<Reported>,
+    /// The plain text of the cause of the last failure, or its first 200 bytes.
+    last_cause: Option<String>,
     stage: Stage,
 }
 
@@ -79,8 +77,8 @@ impl Others {
             past: Vec::new(),
             prints: Prints::new(),
             headings: 0,
-            failures: Vec::new(),
-            last_failure: None,
+            causes: Vec::new(),
+            last_cause: None,
             stage: Stage::Over,
         }
     }
@@ -97,10 +95,12 @@ impl Others {
 
     /// Keeps the cause of the last failure.
     fn keep_cause(&mut self, line: &str, plain: &str) {
-        if let Some(failure) = &mut self.last_failure {
-            failure.cause = Some(String::from(shortened(line)));
-            failure.plain_cause = Some(String::from(shortened(plain)));
-        }
+        let line = String::from(shortened(line));
+        self.causes.push(Cause {
+            headings: self.headings,
+            line,
+        });
+        self.last_cause = Some(String::from(shortened(plain)));
     }
 
     /// Takes a heading. Fails if memory runs out, or the number of headings does not fit.
@@ -114,14 +114,7 @@ impl Others {
     /// Takes a failure of cargo.
     pub(crate) fn on_failure(&mut self) {
         self.end_part();
-        let failure = Reported {
-            headings: self.headings,
-            cause: None,
-            plain_cause: None,
-        };
-        if let Some(before) = std::mem::replace(&mut self.last_failure, Some(failure)) {
-            self.failures.push(before);
-        }
+        self.last_cause = None;
         self.stage = Stage::Failed;
     }
 
@@ -141,12 +134,8 @@ impl Others {
 
     /// Returns the place of an event.
     pub(crate) fn event_place(&self) -> EventPlace {
-        let failures = match &self.last_failure {
-            Some(_) => self.failures.len() + 1,
-            None => self.failures.len(),
-        };
         EventPlace {
-            failures,
+            causes: self.causes.len(),
             headings: self.headings,
         }
     }
@@ -167,32 +156,17 @@ impl Others {
         self.part_at(at.part).last_from(at.print)
     }
 
-    /// Returns the cause of the first failure after an event, unless a heading came between them.
+    /// Returns the first cause after an event, unless a heading came between them.
     pub(crate) fn cause_after(&self, at: EventPlace) -> Option<String> {
-        match self.failure_at(at.failures) {
-            Some(failure) if failure.headings == at.headings => failure.cause.clone(),
+        match self.causes.get(at.causes) {
+            Some(cause) if cause.headings == at.headings => Some(cause.line.clone()),
             _ => None,
         }
     }
 
     /// Returns the plain text of the cause of the last failure.
     pub(crate) fn last_cause(&self) -> Option<String> {
-        match &self.last_failure {
-            Some(Reported {
-                plain_cause: Some(cause),
-                ..
-            }) => Some(cause.clone()),
-            _ => None,
-        }
-    }
-
-    /// Returns the failure before which `earlier` others came.
-    fn failure_at(&self, earlier: usize) -> Option<&Reported> {
-        if earlier == self.failures.len() {
-            self.last_failure.as_ref()
-        } else {
-            self.failures.get(earlier)
-        }
+        self.last_cause.clone()
     }
 }
 
