@@ -130,6 +130,44 @@ fn markdown() {
     );
 }
 
+/// What Rust's harness and the tests of a package wrote to both streams with `--nocapture` and one thread.
+const UNCAPTURED: &str = include_str!("samples/test-report/uncaptured.jsonl");
+
+#[test]
+fn each_form_has_the_panic_of_a_test_whose_output_was_not_captured() {
+    let short = "tests::gives_no_credit: panicked at src/lib.rs:5:29: the price is paid\n";
+    let forms = [
+        ("text", "\n    the price is paid\n", short),
+        (
+            "github",
+            "::error file=src/lib.rs,line=5,col=29,title=till (unittests src/lib.rs) tests%3A%3Agives_no_credit::",
+            "%0Athe price is paid\n",
+        ),
+        (
+            "junit",
+            "classname=\"till (unittests src/lib_rs)\" file=\"src/lib.rs\" line=\"5\">",
+            "<failure message=\"panicked at src/lib.rs:5:29: the price is paid\" type=\"test failure\">",
+        ),
+        (
+            "html",
+            "<pre><code>thread 'tests::gives_no_credit' (19297)",
+            "\nthe price is paid</code></pre>",
+        ),
+        ("markdown", "<pre>\nthread ", "\nthe price is paid</pre>"),
+        (
+            "json",
+            r#""place":{"file":"src/lib.rs","line":"5","column":"29"},"short":"panicked at src/lib.rs:5:29: the price is paid""#,
+            r"\nthe price is paid",
+        ),
+    ];
+    for (form, first, second) in forms {
+        let text = report(&["--format", form, "--annotations", "never"], UNCAPTURED, 1);
+        for part in ["(19297) panicked at src/lib.rs:5:29:", first, second] {
+            assert!(text.contains(part), "{form} without {part:?}:\n{text}");
+        }
+    }
+}
+
 /// Returns a run in which tests fail, each with this output.
 fn run_with_output(tests: usize, output: &str) -> String {
     let start = r#"{ "type": "test", "event": "started", "name": "a" }"#;

@@ -7,7 +7,7 @@ use crate::report::lines::{without_returns, written_count};
 use crate::report::options::{Options, OutputDisplay};
 use crate::report::place::Place;
 use crate::report::short::short_reason;
-use crate::report::thread_panic::ThreadPanics;
+use crate::report::thread_panic::TestPanics;
 use crate::report::words::seconds_text;
 use deodarsieve_run::{Crash, Failure, FailureKind, TestNote};
 use std::borrow::Cow;
@@ -77,12 +77,12 @@ impl Why {
 }
 
 impl<'a> ShownFailure<'a> {
-    /// Returns what is shown of a failed test. `panics` are those in what its program wrote to standard error, if that is
-    /// known. Of the options it uses only `limit` and `output`.
+    /// Returns what is shown of a failed test. `panics` are those of tests whose outputs were not captured. Of the options
+    /// it uses only `limit` and `output`.
     pub(crate) fn of(
         test: &'a TestNote,
         failure: &'a Failure,
-        panics: &ThreadPanics<'a>,
+        panics: &'a TestPanics<'_>,
         options: Options,
     ) -> Self {
         let output = output_of(test, failure, panics);
@@ -219,12 +219,12 @@ impl<'a> ShownFailure<'a> {
 }
 
 /// Returns the text that may explain a failure: the prints before a crash, or else the output of the test or, if that was
-/// not captured, its panic in what its program wrote.
-fn output_of<'a>(test: &TestNote, failure: &'a Failure, panics: &ThreadPanics<'a>) -> &'a str {
+/// not captured, its panics.
+fn output_of<'a>(test: &TestNote, failure: &'a Failure, panics: &'a TestPanics<'_>) -> &'a str {
     match (crash_of(failure), &failure.stdout) {
         (Some(crash), _) => &crash.prints,
         (None, Some(stdout)) => stdout,
-        (None, None) => panics.of_thread(&test.name),
+        (None, None) => panics.get(test.name.as_str()).map_or("", String::as_str),
     }
 }
 

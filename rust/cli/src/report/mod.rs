@@ -54,7 +54,7 @@ use crate::report::annotations::{Annotation, push_build_notice, push_failed_name
 use crate::report::build::FailedBuild;
 use crate::report::entry::Entry;
 use crate::report::fault::Fault;
-use crate::report::held::HeldNotes;
+use crate::report::held::{HeldNotes, ReleasedNotes};
 use crate::report::model::{ModelBuilder, ReportModel, Wanted};
 use crate::report::options::Options;
 use crate::report::output::Text;
@@ -62,7 +62,7 @@ use crate::report::problem::Problem;
 use crate::report::program_lines::ProgramLines;
 use crate::report::stopped::StoppedTests;
 use crate::report::text::TextForm;
-use crate::report::thread_panic::ThreadPanics;
+use crate::report::thread_panic::{TestPanics, ThreadPanics};
 use crate::report::values::{page, summary};
 use deodarsieve::{CancelReason, RunOutcome};
 use deodarsieve_run::{
@@ -147,6 +147,9 @@ pub struct Report {
 
     /// The notes that wait for the end of the program that runs.
     held: HeldNotes,
+
+    /// The panics that were printed while tests ran, if no lines of programs count.
+    panics: ThreadPanics,
     options: Options,
     format: Format,
     files: Files,
@@ -192,6 +195,7 @@ impl Report {
             run: ProgramRun::new(TestRun::with_file_names(slow, file_names)),
             programs: ProgramLines::default(),
             held: HeldNotes::default(),
+            panics: ThreadPanics::default(),
             options,
             format,
             files,
@@ -269,15 +273,42 @@ impl Report {
         if let Event::TestSlow { name } = line.event() {
             self.tell_hung(name);
         }
+        self.take_print(&line, bytes);
         let mut notes = self.run.on_line(&line)?;
         notes.sort_by_key(comes_last);
         self.tell_own_harness(ended);
         let released = self.held.released_by(&line);
-        self.show(&released.notes, &released.stderr, output)?;
+        self.show_released(&released, output)?;
         if self.programs.program().is_some() {
             notes = self.held.keep(notes);
         }
-        self.show(&notes, "", output)
+        let panics = self.panics.of_tests(&notes);
+        self.show(&notes, &panics, output)
+    }
+
+    /// Takes what of a line is no event, if tests run that may have printed it and nothing else says what they printed.
+    fn take_print(&mut self, line: &Line, bytes: &[u8]) {
+        if self.programs.count() {
+            return;
+        }
+        if self.run().first_running().is_none() {
+            self.panics = ThreadPanics::default();
+        } else if let Some(size) = line.rest() {
+            self.panics.on_print(&bytes[..size]);
+        }
+        if let Event::TestStarted { name } = line.event() {
+            self.panics.on_test_started(name);
+        }
+    }
+
+    /// Writes the notes that become known with the end of their program.
+    fn show_released(
+        &mut self,
+        released: &ReleasedNotes,
+        output: &mut impl Write,
+    ) -> Result<(), Fault> {
+        let panics = ThreadPanics::of(&released.stderr).of_tests(&released.notes);
+        self.show(&released.notes, &panics, output)
     }
 
     /// Tells in the text for people that a test has run for a minute, if nothing else shows that.
@@ -317,7 +348,7 @@ impl Report {
         let told = self.programs.end_file(&notes);
         self.tell_own_harness(told.own_harness);
         let released = self.held.release();
-        self.show(&released.notes, &released.stderr, output)?;
+        self.show_released(&released, output)?;
         let build = self.build.take().or(told.build);
         if let Some(build) = &build {
             self.show_build(build, output)?;
@@ -399,7 +430,7 @@ impl Report {
     /// they are dropped then.
     fn show_parts(&mut self, notes: Vec<Note>, output: &mut impl Write) -> Result<(), Fault> {
         for part in notes.split_inclusive(ends_part) {
-            self.show(part, "", output)?;
+            self.show(part, &TestPanics::new(), output)?;
         }
         Ok(())
     }
@@ -422,12 +453,16 @@ impl Report {
         Ok(())
     }
 
-    /// Writes what notes make known at once. `stderr` is what their program wrote to standard error, if that is known.
-    fn show(&mut self, notes: &[Note], stderr: &str, output: &mut impl Write) -> Result<(), Fault> {
+    /// Writes what notes make known at once. `panics` are those of tests whose outputs were not captured.
+    fn show(
+        &mut self,
+        notes: &[Note],
+        panics: &TestPanics<'_>,
+        output: &mut impl Write,
+    ) -> Result<(), Fault> {
         let (options, stopped) = (self.options, StoppedTests::of(notes));
-        let panics = ThreadPanics::of(stderr);
         let entries = notes.iter();
-        let entries = entries.filter_map(|note| Entry::of(note, &stopped, &panics, options));
+        let entries = entries.filter_map(|note| Entry::of(note, &stopped, panics, options));
         self.show_entries(entries, output)
     }
 

@@ -41,9 +41,14 @@ pub(crate) struct ToldAtEnd {
 }
 
 impl ProgramLines {
+    /// Returns true if lines of programs count in this file, as far as it was read.
+    pub(crate) fn count(&self) -> bool {
+        self.count == Some(true)
+    }
+
     /// Returns true if a line is the first one of another run in the same file: where such lines count, a command starts.
     pub(crate) fn ends_before(&self, line: &Line) -> bool {
-        self.count == Some(true) && matches!(line.program(), Some(ProgramLine::CommandStarted))
+        self.count() && matches!(line.program(), Some(ProgramLine::CommandStarted))
     }
 
     /// Takes a line of the run. Returns the name of the program that ended, if it has its own harness, told of no test,
@@ -83,7 +88,7 @@ impl ProgramLines {
 
     /// Takes the same line, and returns true if it is one of the build: cargo wrote it before anything started.
     pub(crate) fn on_message(&mut self, line: &[u8]) -> bool {
-        let may_be_of_build = self.count == Some(true) && !self.has_started;
+        let may_be_of_build = self.count() && !self.has_started;
         may_be_of_build && self.messages.on_line(line)
     }
 

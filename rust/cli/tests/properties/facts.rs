@@ -24,8 +24,18 @@ pub struct Facts {
     /// The programs with their own harness that told of no test, each with the number of notes before its end.
     pub without_report: Vec<(usize, String)>,
 
-    /// What the programs of failed tests without an output wrote to standard error, by the places of their notes.
-    stderr: BTreeMap<usize, String>,
+    /// What may have the panics of failed tests without an output, by the places of their notes: what their programs wrote
+    /// to standard error or, without lines of programs, the prints since they started.
+    texts: BTreeMap<usize, String>,
+}
+
+/// The prints of a file without lines of programs, since a test runs.
+#[derive(Default)]
+struct Prints {
+    text: String,
+
+    /// How many bytes of the text came before the last start of each test.
+    starts: BTreeMap<String, usize>,
 }
 
 /// What lines of programs tell beside notes.
@@ -62,7 +72,7 @@ impl Facts {
         let mut run = ProgramRun::new(TestRun::new(SLOW));
         let (mut notes, mut others) = (Vec::new(), Vec::new());
         let (mut told, mut without_report) = (Told::default(), Vec::new());
-        let mut stderr = BTreeMap::new();
+        let mut texts = BTreeMap::new();
         for (place, file) in files.iter().enumerate() {
             if place > 0 {
                 without_report.extend(Some(notes.len()).zip(told.program.take()));
@@ -70,6 +80,7 @@ impl Facts {
             }
             let first = lines_of(file).next().map(Line::read);
             let has_programs = first.is_some_and(|line| line.program().is_some());
+            let mut prints = Prints::default();
             for bytes in lines_of(file) {
                 let line = Line::read(bytes);
                 if let Some(size) = line.rest() {
@@ -78,15 +89,27 @@ impl Facts {
                 }
                 if has_programs {
                     without_report.extend(Some(notes.len()).zip(told.on_line(&line)));
-                    release(&mut told, line.program(), &mut notes, &mut stderr);
+                    release(&mut told, line.program(), &mut notes, &mut texts);
+                } else if run.run().first_running().is_some() {
+                    prints.add(&line, bytes);
+                } else {
+                    prints = Prints::default();
+                }
+                if let Event::TestStarted { name } = line.event() {
+                    prints.starts.insert(name.to_string(), prints.text.len());
                 }
                 let mut known = run.on_line(&line).expect("the numbers fit");
                 // Tests that were not run come after what the rest of the line says.
                 known.sort_by_key(|note| matches!(note, Note::NotRun(_) | Note::Suite(_)));
-                notes.extend(known.into_iter().filter_map(|note| told.shown(note)));
+                for note in known.into_iter().filter_map(|note| told.shown(note)) {
+                    if let Some(test) = test_of(&note).filter(|_| !has_programs) {
+                        texts.insert(notes.len(), prints.since_start(&test.name).to_string());
+                    }
+                    notes.push(note);
+                }
             }
             told.runs = false;
-            release(&mut told, None, &mut notes, &mut stderr);
+            release(&mut told, None, &mut notes, &mut texts);
         }
         let mut finished = run.finish(None, false).expect("the numbers fit");
         without_report.extend(Some(notes.len()).zip(told.program.take()));
@@ -103,11 +126,11 @@ impl Facts {
             others,
             cancelled: told.cancelled,
             without_report,
-            stderr,
+            texts,
         }
     }
 
-    /// Returns the output of a failed test: as it was captured, or else the panic of its thread in what its program wrote.
+    /// Returns the output of a failed test: as it was captured, or else the panic of its thread in what was printed.
     pub fn output_of<'a>(&'a self, test: &TestNote, failure: &'a Failure) -> &'a str {
         if let Some(stdout) = &failure.stdout {
             return stdout;
@@ -115,8 +138,8 @@ impl Facts {
         let place = self
             .tests_with_places()
             .find(|(_, it)| std::ptr::eq(*it, test));
-        let stderr = place.and_then(|(place, _)| self.stderr.get(&place));
-        stderr.map_or("", |stderr| panic_in(stderr, &test.name))
+        let text = place.and_then(|(place, _)| self.texts.get(&place));
+        text.map_or("", |text| panic_in(text, &test.name))
     }
 
     /// Returns the tests with the places of their notes.
@@ -211,7 +234,7 @@ fn release(
     told: &mut Told,
     line: Option<&ProgramLine>,
     notes: &mut Vec<Note>,
-    stderr: &mut BTreeMap<usize, String>,
+    texts: &mut BTreeMap<usize, String>,
 ) {
     let text = match line {
         Some(ProgramLine::ProgramEnded { stderr, .. }) => stderr.as_str(),
@@ -220,7 +243,7 @@ fn release(
         _ => return,
     };
     for note in told.held.drain(..) {
-        stderr.insert(notes.len(), text.to_string());
+        texts.insert(notes.len(), text.to_string());
         notes.push(note);
     }
 }
@@ -248,6 +271,27 @@ fn panic_in<'a>(text: &'a str, thread: &str) -> &'a str {
     };
     let end = starts[first..].iter().find(|(_, is_own)| !is_own);
     &text[starts[first].0..end.map_or(text.len(), |(end, _)| *end)]
+}
+
+impl Prints {
+    /// Adds what of a line is no event.
+    fn add(&mut self, line: &Line, bytes: &[u8]) {
+        if let Some(size) = line.rest() {
+            self.text += &format!("{}\n", String::from_utf8_lossy(&bytes[..size]));
+        }
+    }
+
+    /// Returns the prints since a test started: the lines that begin in the last 65,536 bytes.
+    fn since_start(&self, test: &str) -> &str {
+        let start = self.starts.get(test).copied().unwrap_or(0);
+        let lines = self.text[start..].split_inclusive('\n').rev();
+        let sizes = lines.scan(0, |size, line| {
+            *size += line.len();
+            Some(*size)
+        });
+        let size = sizes.take_while(|size| *size <= 65_536).last();
+        &self.text[self.text.len() - size.unwrap_or(0)..]
+    }
 }
 
 impl Told {

@@ -272,10 +272,10 @@ impl Generator {
     }
 
     /// Writes the line of a test's end.
-    fn test_end(&mut self, name: &str, counts: &mut Counts) {
+    fn test_end(&mut self, test: &str, counts: &mut Counts) {
         let name = match self.random.below(6) {
-            0 => format!("{name}#{}", self.random.one_of(&[2, 3, 25])),
-            _ => name.to_string(),
+            0 => format!("{test}#{}", self.random.one_of(&[2, 3, 25])),
+            _ => test.to_string(),
         };
         let event = match self.random.below(5) {
             0 => "ignored",
@@ -296,7 +296,23 @@ impl Generator {
             _ => counts.ignored += 1,
         }
         self.texts(&mut end, event);
+        if end["stdout"].is_null() && self.is_wrong(2) {
+            self.panics(test);
+        }
         self.line(&end);
+    }
+
+    /// Writes panics of threads as lines that are no events: of a test, and of others.
+    fn panics(&mut self, test: &str) {
+        let names = [test, test, "worker", "a"];
+        while self.random.one_in(2) {
+            // A name with a quote or a line feed would be the name of another thread.
+            let name = self.random.one_of(&names).replace(['\'', '\n'], "");
+            let line = self.random.below(90);
+            let head = format!("thread '{name}' (7) panicked at src/a.rs:{line}:2:");
+            self.lines.push_str(&format!("{head}\nlost\n\n"));
+            self.others();
+        }
     }
 
     /// Adds texts to the line of a test's end.

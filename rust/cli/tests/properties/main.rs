@@ -92,7 +92,7 @@ fn generated_runs_of_programs() {
 
 #[test]
 fn generated_runs_of_programs_have_each_kind_of_problem() {
-    let (mut lines, mut silent, mut uncaptured) = (String::new(), 0, 0);
+    let (mut lines, mut silent) = (String::new(), 0);
     for seed in 0..400 {
         let facts = Facts::of(&generated_programs::run_of(seed));
         let problems = facts.problems().map(|(_, line)| line);
@@ -102,11 +102,6 @@ fn generated_runs_of_programs_have_each_kind_of_problem() {
             lines.push_str(&format!("{line}\n"));
         }
         silent += facts.without_report.len();
-        let uncaptured_here = facts.failures().filter(|(test, failure)| {
-            let is_told = matches!(failure.kind, FailureKind::Failed | FailureKind::TimedOut);
-            is_told && failure.stdout.is_none() && !facts.output_of(test, failure).is_empty()
-        });
-        uncaptured += uncaptured_here.count();
     }
     for part in [
         " ended with status 3\n",
@@ -129,10 +124,26 @@ fn generated_runs_of_programs_have_each_kind_of_problem() {
         assert!(lines.contains(part), "no run has {part:?}");
     }
     assert!(silent > 0, "no program has its own harness");
-    assert!(
-        uncaptured > 0,
-        "no test has its panic in what its program wrote"
-    );
+}
+
+/// Returns how many failed tests of a run have their panics in what was printed.
+fn uncaptured_panics(run: &[Vec<u8>]) -> usize {
+    let facts = Facts::of(run);
+    let failures = facts.failures();
+    let uncaptured = failures.filter(|(test, failure)| {
+        let has_line = matches!(failure.kind, FailureKind::Failed | FailureKind::TimedOut);
+        has_line && failure.stdout.is_none() && !facts.output_of(test, failure).is_empty()
+    });
+    uncaptured.count()
+}
+
+#[test]
+fn generated_runs_have_panics_of_tests_whose_output_was_not_captured() {
+    let panics = |run_of: fn(u64) -> Vec<Vec<u8>>| -> usize {
+        (0..400).map(|seed| uncaptured_panics(&run_of(seed))).sum()
+    };
+    assert!(panics(generated::run_of) > 0);
+    assert!(panics(generated_programs::run_of) > 0);
 }
 
 #[test]
