@@ -76,14 +76,16 @@ fn said_by(output: &str, head: HeadSpan, documented: Option<Place<'_>>) -> Strin
 }
 
 /// Returns what a panic says: `panicked at`, its place, and the next line too if the line of the place ends in a colon.
-/// `place` is the text from the place on. The place of a documentation test is the one in the sources.
+/// `place` is the text from the place on. `documented` is the place of a documentation test in the sources. It replaces
+/// the place of the panic, or comes before a panic in another file.
 fn said_at(place: &str, documented: Option<Place<'_>>) -> String {
     let (line, rest) = first_line(place);
-    let line = match documented {
-        Some(place) if place.is_for(line) => format!("{}:{}:", place.file, place.line).into(),
-        _ => Cow::from(line),
+    let words = match documented {
+        None => format!("panicked at {line}"),
+        Some(own) if own.is_for(line) => format!("panicked at {}:{}:", own.file, own.line),
+        Some(own) => format!("{}:{}: panicked at {line}", own.file, own.line),
     };
-    with_next(&format!("panicked at {line}"), first_line(rest).0)
+    with_next(&words, first_line(rest).0)
 }
 
 /// Returns words. If they end in a colon, and the next line is not empty, that line follows after a space.
