@@ -302,6 +302,32 @@ fn the_end_of_a_command_has_the_last_error_unless_it_is_a_success() {
 }
 
 #[test]
+fn a_negative_status_of_the_command_is_shown_as_it_is() {
+    for (status, words) in [
+        (-1, "the command ended with status -1, and no line says why"),
+        (
+            -1_073_741_819,
+            "the command ended with status -1073741819, and no line says why",
+        ),
+        (
+            255,
+            "the command ended with status 255, and no line says why",
+        ),
+    ] {
+        let lines = [
+            json!({"type": "command", "event": "started"}),
+            json!({"type": "program", "event": "started", "name": "bank", "list": true}),
+            json!({"type": "program", "event": "ended", "status": 0, "stderr": ""}),
+            json!({"type": "command", "event": "ended", "status": status}),
+        ];
+        let lines = lines.map(|line| format!("{line}\n")).concat();
+        let output = run("test-report", &[] as &[&str], lines.as_bytes());
+        let text = String::from_utf8_lossy(&output.stdout);
+        assert!(text.starts_with(&format!("{words}\n---")), "{text}");
+    }
+}
+
+#[test]
 fn a_command_that_is_not_started_has_no_end() {
     let folder = Folder::new("not-started");
     let arguments = ["--save", "run.jsonl", "--", "./cargo", "test"];

@@ -345,7 +345,7 @@ impl Report {
         mut notes: Vec<Note>,
         output: &mut impl Write,
     ) -> Result<bool, Fault> {
-        let told = self.programs.end_file(&notes);
+        let told = self.programs.end_file(&mut notes);
         self.tell_own_harness(told.own_harness);
         let released = self.held.release();
         self.show_released(&released, output)?;

@@ -321,13 +321,13 @@ fn command_line(end: &CommandEnd) -> String {
     }
 }
 
-/// Returns how a command ended.
+/// Returns how a command ended. On some systems its status may be negative.
 fn end_text(end: &CommandEnd) -> String {
     match end {
         CommandEnd::NotStarted { error } => format!("could not be started: {}", line(error)),
         CommandEnd::Signal { number } => format!("ended by signal {number}"),
         CommandEnd::Status { code } | CommandEnd::Error { code, .. } => {
-            format!("ended with status {code}")
+            format!("ended with status {}", code.cast_signed())
         }
     }
 }
@@ -373,5 +373,23 @@ fn result_word(result: TestResult) -> &'static str {
         TestResult::Ok => "ok",
         TestResult::Failed => "failed",
         TestResult::Ignored => "ignored",
+    }
+}
+
+#[cfg(test)]
+mod tests {
+    use super::*;
+
+    #[test]
+    fn the_status_of_a_command_may_be_negative() {
+        let code = (-1_i32).cast_unsigned();
+        let status = CommandEnd::Status { code };
+        let line = command_line(&status);
+        assert_eq!(
+            line,
+            "the command ended with status -1, and no line says why"
+        );
+        let build = Problem::of_failed_build(&status, OutputDisplay::Auto);
+        assert_eq!(build.line, "cargo ended with status -1");
     }
 }

@@ -2,7 +2,7 @@
 
 use crate::report::build::{CompilerMessages, FailedBuild};
 use deodarsieve::CancelReason;
-use deodarsieve_run::{CommandEnd, Disagreement, Event, Line, Note, ProgramLine};
+use deodarsieve_run::{CommandEnd, Disagreement, Event, Line, Note, ProgramEnd, ProgramLine};
 use std::collections::BTreeSet;
 use std::mem;
 
@@ -20,6 +20,9 @@ pub(crate) struct ProgramLines {
 
     /// The name of the program that runs.
     program: Option<String>,
+
+    /// The exit status of the command, if a line of this file has it.
+    status: Option<i32>,
 
     /// What the compiler said in the build, before anything started.
     messages: CompilerMessages,
@@ -79,8 +82,9 @@ impl ProgramLines {
                 self.cancelled = reason.or(self.cancelled);
                 None
             }
-            Some(ProgramLine::CommandEnded { reason, .. }) => {
+            Some(ProgramLine::CommandEnded { end, reason, .. }) => {
                 self.cancelled = reason.or(self.cancelled);
+                self.status = end.and_then(status_of);
                 self.end_program()
             }
         }
@@ -92,9 +96,12 @@ impl ProgramLines {
         may_be_of_build && self.messages.on_line(line)
     }
 
-    /// Takes the end of a file, which made these notes known.
-    pub(crate) fn end_file(&mut self, notes: &[Note]) -> ToldAtEnd {
+    /// Takes the end of a file, which made these notes known. Notes in them the exit status of the command.
+    pub(crate) fn end_file(&mut self, notes: &mut [Note]) -> ToldAtEnd {
         let count = self.count.take() == Some(true);
+        if let Some(status) = self.status.take() {
+            notes.iter_mut().for_each(|note| set_status(note, status));
+        }
         let has_started = mem::take(&mut self.has_started);
         let messages = mem::take(&mut self.messages);
         let end = notes.iter().find_map(end_of_command);
@@ -127,6 +134,24 @@ impl ProgramLines {
     fn end_program(&mut self) -> Option<String> {
         let name = self.program.take().filter(|_| self.is_silent)?;
         self.returned.insert(name.clone()).then_some(name)
+    }
+}
+
+/// Returns an exit status as the system has it, or `None` for another end.
+fn status_of(end: ProgramEnd) -> Option<i32> {
+    match end {
+        ProgramEnd::Status(status) => i32::try_from(status).ok(),
+        ProgramEnd::Signal(_) => None,
+    }
+}
+
+/// Sets the exit status of the command in a note that it failed. The run has only the greatest number for each negative
+/// status that a line says.
+fn set_status(note: &mut Note, status: i32) {
+    if let Note::Disagreement(Disagreement::Command(end)) = note
+        && let CommandEnd::Status { code } | CommandEnd::Error { code, .. } = end
+    {
+        *code = status.cast_unsigned();
     }
 }
 

@@ -45,6 +45,9 @@ struct Told {
     program: Option<String>,
     cancelled: Option<CancelReason>,
 
+    /// The exit status of the command in the file.
+    status: Option<i64>,
+
     /// True if a program runs.
     runs: bool,
 
@@ -76,7 +79,8 @@ impl Facts {
         for (place, file) in files.iter().enumerate() {
             if place > 0 {
                 without_report.extend(Some(notes.len()).zip(told.program.take()));
-                notes.append(&mut run.end_file().expect("the numbers fit"));
+                let known = run.end_file().expect("the numbers fit");
+                notes.extend(told.with_status(known));
             }
             let first = lines_of(file).next().map(Line::read);
             let has_programs = first.is_some_and(|line| line.program().is_some());
@@ -111,9 +115,9 @@ impl Facts {
             told.runs = false;
             release(&mut told, None, &mut notes, &mut texts);
         }
-        let mut finished = run.finish(None, false).expect("the numbers fit");
+        let finished = run.finish(None, false).expect("the numbers fit");
         without_report.extend(Some(notes.len()).zip(told.program.take()));
-        notes.append(&mut finished.notes);
+        notes.extend(told.with_status(finished.notes));
         let mut names: Vec<String> = Vec::new();
         without_report.retain(|(_, name)| {
             let is_new = !names.contains(name);
@@ -314,6 +318,19 @@ impl Told {
         }
     }
 
+    /// Returns the notes of the end of a file, with the status of the command that its lines say.
+    fn with_status(&mut self, mut notes: Vec<Note>) -> Vec<Note> {
+        let status = self.status.take();
+        for note in &mut notes {
+            if let (Note::Disagreement(Disagreement::Command(end)), Some(status)) = (note, status)
+                && let CommandEnd::Status { code } | CommandEnd::Error { code, .. } = end
+            {
+                *code = (status as i32).cast_unsigned();
+            }
+        }
+        notes
+    }
+
     /// Takes a line of a file in which lines of programs count. Returns the program that ends with it, if it has its own
     /// harness and told of no test.
     fn on_line(&mut self, line: &Line) -> Option<String> {
@@ -326,8 +343,12 @@ impl Told {
                 self.cancelled = reason.or(self.cancelled);
                 None
             }
-            Some(ProgramLine::CommandEnded { reason, .. }) => {
+            Some(ProgramLine::CommandEnded { reason, end, .. }) => {
                 self.cancelled = reason.or(self.cancelled);
+                self.status = match end {
+                    Some(ProgramEnd::Status(status)) => Some(*status),
+                    Some(ProgramEnd::Signal(_)) | None => None,
+                };
                 self.program.take()
             }
             Some(ProgramLine::CommandStarted) => None,
@@ -550,6 +571,7 @@ fn command_line(end: &CommandEnd) -> String {
         }
         CommandEnd::Signal { number } => format!("the command ended by signal {number}"),
         CommandEnd::Status { code } => {
+            let code = code.cast_signed();
             format!("the command ended with status {code}, and no line says why")
         }
         CommandEnd::Error { words, .. } => {
