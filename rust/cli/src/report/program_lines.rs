@@ -148,9 +148,7 @@ fn status_of(end: ProgramEnd) -> Option<i32> {
 /// Sets the exit status of the command in a note that it failed. The run has only the greatest number for each negative
 /// status that a line says.
 fn set_status(note: &mut Note, status: i32) {
-    if let Note::Disagreement(Disagreement::Command(end)) = note
-        && let CommandEnd::Status { code } | CommandEnd::Error { code, .. } = end
-    {
+    if let Note::Disagreement(Disagreement::Command(CommandEnd::Status { code })) = note {
         *code = status.cast_unsigned();
     }
 }

@@ -5,6 +5,7 @@ use crate::report::explanation::Found;
 use crate::report::failure::{crash_words, reason_of};
 use crate::report::lines::{first_line, last_written, ten_written};
 use crate::report::place::Place;
+use crate::report::thread_panic::thread_name;
 use deodarsieve::TestOutputErrorSlice;
 use deodarsieve::counted::{HeadSpan, last_head};
 use deodarsieve_run::{Crash, Failure, FailureKind, TestNote};
@@ -118,9 +119,4 @@ pub(crate) fn other_thread(found: &Found<'_>) -> Option<HeadSpan> {
     let (first, last) = (found.first?, found.last?);
     let is_other = thread_name(found.output, first) != thread_name(found.output, last);
     is_other.then_some(first)
-}
-
-/// Returns the name of the thread in a head.
-fn thread_name(output: &str, head: HeadSpan) -> &str {
-    output[head.start..].split('\'').nth(1).unwrap_or("")
 }

@@ -1,13 +1,8 @@
 //! The panics of threads in what their program printed.
 
+use deodarsieve::counted::{HeadSpan, first_head};
 use deodarsieve_run::{Note, TestOutcome};
 use std::collections::{BTreeMap, HashMap, VecDeque};
-
-/// What the head of each panic begins with.
-const HEAD: &str = "thread '";
-
-/// What follows the name and the number of the thread in a head.
-const PANICKED: &str = " panicked at ";
 
 /// How many bytes of the prints between the events of a run are looked through for panics: the last ones.
 const WINDOW: u64 = 65_536;
@@ -118,17 +113,15 @@ fn uncaptured_name(note: &Note) -> Option<&str> {
     }
 }
 
-/// Returns the name of the thread in a line that is the head of a panic. The name may be followed by a number in brackets.
+/// Returns the name of the thread in a line that begins with the head of a panic.
 fn thread_of(line: &str) -> Option<&str> {
-    let (name, rest) = line.strip_prefix(HEAD)?.split_once('\'')?;
-    let number = rest
-        .strip_prefix(" (")
-        .and_then(|rest| rest.split_once(')'));
-    let rest = match number {
-        Some((number, rest)) if number.bytes().all(|byte| byte.is_ascii_digit()) => rest,
-        _ => rest,
-    };
-    rest.starts_with(PANICKED).then_some(name)
+    let head = first_head(line.as_bytes()).filter(|head| head.start == 0)?;
+    Some(thread_name(line, head))
+}
+
+/// Returns the name of the thread in a head of a panic.
+pub(crate) fn thread_name(output: &str, head: HeadSpan) -> &str {
+    output[head.start..].split('\'').nth(1).unwrap_or("")
 }
 
 #[cfg(test)]

@@ -322,8 +322,8 @@ impl Told {
     fn with_status(&mut self, mut notes: Vec<Note>) -> Vec<Note> {
         let status = self.status.take();
         for note in &mut notes {
-            if let (Note::Disagreement(Disagreement::Command(end)), Some(status)) = (note, status)
-                && let CommandEnd::Status { code } | CommandEnd::Error { code, .. } = end
+            if let Note::Disagreement(Disagreement::Command(CommandEnd::Status { code })) = note
+                && let Some(status) = status
             {
                 *code = (status as i32).cast_unsigned();
             }
