@@ -211,7 +211,6 @@ fn write_report(
     let (format, files) = (format_of(matches, options), files_of(matches));
     let report = Report::new(options, format, files, slow, input.file_names());
     let shows_progress = shows_progress(matches);
-    let has_reader = shows_progress || io::stderr().is_terminal();
     let line = RefCell::new(ProgressLine::new(io::stderr()));
     let saved = output_files.saved_run(interrupt)?;
     let writer = KeepError::new(StandardOutput::lock());
@@ -222,7 +221,7 @@ fn write_report(
         pass_on(matches),
         interrupt,
         shows_progress,
-        has_reader,
+        shows_progress || io::stderr().is_terminal(),
     );
     let ended = reader.report(input);
     line.borrow_mut().hide();
@@ -232,17 +231,22 @@ fn write_report(
         saved,
         ..
     } = streams;
-    match (ended, output.into_writer().into_error()) {
-        (Ok(ended), _) => {
+    match ended {
+        Ok(ended) => {
             output_files.write(&ended.files, interrupt)?;
             saved.map_or(Ok(()), SavedRun::finish)?;
             Ok(status_of(&ended, others.has_failed()))
         }
-        (Err(_), Some(error)) if error.kind() == ErrorKind::BrokenPipe => {
-            Ok(ExitCode::from(DEVICE_FAILED))
-        }
-        (Err(failure), Some(error)) => Err(failure.caused_by(Some(error))),
-        (Err(failure), None) => Err(failure),
+        Err(failure) => without_report(failure, output.into_writer().into_error()),
+    }
+}
+
+/// Returns what follows from a report that could not be made. `error` is that of standard output, if there was one.
+fn without_report(failure: Failure, error: Option<io::Error>) -> Result<ExitCode, Failure> {
+    match error {
+        Some(error) if error.kind() == ErrorKind::BrokenPipe => Ok(ExitCode::from(DEVICE_FAILED)),
+        Some(error) => Err(failure.caused_by(Some(error))),
+        None => Err(failure),
     }
 }
 

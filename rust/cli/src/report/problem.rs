@@ -268,11 +268,12 @@ fn disagreement_line(disagreement: &Disagreement) -> String {
             said,
             passed,
             failed,
-        } => format!(
-            "{}: its last line {}, but {passed} of its tests passed and {failed} failed",
-            name(suite),
-            said_numbers(said)
-        ),
+        } => {
+            let (suite, said) = (name(suite), said_numbers(said));
+            format!(
+                "{suite}: its last line {said}, but {passed} of its tests passed and {failed} failed"
+            )
+        }
         Disagreement::StrayEnd { name: test, result } => {
             let (test, result) = (name(test), result_word(*result));
             format!("{test} ended {result}, and had not started")
@@ -289,16 +290,17 @@ fn disagreement_line(disagreement: &Disagreement) -> String {
             let text = line(text);
             format!("a damaged line says that a test or a suite failed: {text}")
         }
-        Disagreement::NoEvent { file } => {
-            let file = file
-                .as_deref()
-                .map_or(Cow::from("the input"), |file| name(file).into());
-            format!("no line of {file} is of a test run")
-        }
+        Disagreement::NoEvent { file } => no_event_line(file.as_deref()),
         Disagreement::Command(end) => command_line(end),
         Disagreement::Program(fault) => fault_line(fault),
         Disagreement::Cancelled(reason) => cancelled_line(*reason),
     }
+}
+
+/// Returns the line of a file, or of the only input, without an event of a harness.
+fn no_event_line(file: Option<&str>) -> String {
+    let file = file.map_or_else(|| "the input".to_string(), name);
+    format!("no line of {file} is of a test run")
 }
 
 /// Returns the line of a suite that ended and had not started.
