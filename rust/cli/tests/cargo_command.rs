@@ -157,9 +157,9 @@ fn a_runner_of_the_user_is_used_and_its_cost_is_told() {
         runner,
     ];
     let output = report(&folder, &arguments);
-    let told = "test-report: RUSTC_BOOTSTRAP is set for the whole of cargo, because your settings name a runner or a \
+    let warning = "test-report: RUSTC_BOOTSTRAP is set for the whole of cargo, because your settings name a runner or a \
                 rustdoc: packages whose build script watches this variable are compiled anew\n";
-    assert_failed(&output, NAMES, told);
+    assert_failed(&output, NAMES, warning);
 }
 
 #[test]

@@ -1,4 +1,4 @@
-//! What takes the place of a test program: it starts the program, stays, tells what it sees, and ends as the program did.
+//! What takes the place of a test program: it starts the program, stays, writes lines about it, and ends as the program did.
 #![cfg(unix)]
 
 mod common;
@@ -73,8 +73,8 @@ fn send(signal: &str, child: &Child) {
 }
 
 #[test]
-fn it_tells_the_start_each_line_and_the_end() {
-    let folder = Folder::new("told");
+fn it_writes_the_start_each_line_and_the_end() {
+    let folder = Folder::new("lines");
     let output = run_script(&folder, "echo a; echo x >&2; printf 'b '; exit 101");
     let lines = lines_of(&output);
     assert_eq!(lines.len(), 4, "{lines:?}");
@@ -148,7 +148,7 @@ fn a_program_that_is_not_there_is_a_failure_without_a_line() {
 }
 
 #[test]
-fn a_harness_that_is_asked_for_a_list_is_told_as_such() {
+fn the_line_of_the_start_says_that_a_harness_is_asked_for_a_list() {
     let folder = Folder::new("list");
     let path = folder.script("program", "#!/bin/sh\n");
     for (arguments, wanted) in [
@@ -366,7 +366,7 @@ fn it_is_over_ten_seconds_after_the_end_of_its_program_in_any_case() {
     );
     let end = last_line(&output);
     assert_eq!(end["status"], json!(7));
-    // What came until then is told.
+    // What came until then is passed on.
     assert!(lines_of(&output).len() > 50);
     let stderr = end["stderr"].as_str().expect("it is text");
     assert!(stderr.lines().count() > 50, "{stderr}");

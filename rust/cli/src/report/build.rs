@@ -172,7 +172,7 @@ impl CompilerMessages {
         }
     }
 
-    /// Returns true if a target has its errors as a test program, as far as the messages tell: they do not name the
+    /// Returns true if a target has its errors as a test program, as far as the messages say: they do not name the
     /// profile. An error that came twice came for both. A program is compiled for itself only if a test of the package
     /// needs it.
     fn is_test(&self, target: &TargetId, errors: &[&CompilerError]) -> bool {

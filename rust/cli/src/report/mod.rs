@@ -142,7 +142,7 @@ pub struct Ended {
 pub struct Report {
     run: ProgramRun,
 
-    /// What lines of programs tell beside what they make known of the run.
+    /// What lines of programs say that the notes of the run do not have.
     programs: ProgramLines,
 
     /// The notes that wait for the end of the program that runs.
@@ -271,12 +271,12 @@ impl Report {
             pass_on(&line, bytes, others);
         }
         if let Event::TestSlow { name } = line.event() {
-            self.tell_hung(name);
+            self.show_hung(name);
         }
         self.take_print(&line, bytes);
         let mut notes = self.run.on_line(&line)?;
         notes.sort_by_key(comes_last);
-        self.tell_own_harness(ended);
+        self.show_own_harness(ended);
         let released = self.held.released_by(&line);
         self.show_released(&released, output)?;
         if self.programs.program().is_some() {
@@ -311,8 +311,8 @@ impl Report {
         self.show(&released.notes, &panics, output)
     }
 
-    /// Tells in the text for people that a test has run for a minute, if nothing else shows that.
-    fn tell_hung(&mut self, test: &str) {
+    /// Adds to the text for people that a test has run for a minute, if nothing else shows that.
+    fn show_hung(&mut self, test: &str) {
         let program = self.programs.program();
         let is_of_command = self.is_command || program.is_some();
         if let Some(form) = &self.form
@@ -323,8 +323,8 @@ impl Report {
         }
     }
 
-    /// Tells in the text for people that a program has its own harness, if one does.
-    fn tell_own_harness(&mut self, program: Option<String>) {
+    /// Adds to the text for people that a program has its own harness, if one does.
+    fn show_own_harness(&mut self, program: Option<String>) {
         if let (Some(program), Some(form)) = (program, &self.form) {
             form.on_own_harness(&program, &mut self.text);
         }
@@ -345,11 +345,11 @@ impl Report {
         mut notes: Vec<Note>,
         output: &mut impl Write,
     ) -> Result<bool, Fault> {
-        let told = self.programs.end_file(&mut notes);
-        self.tell_own_harness(told.own_harness);
+        let known = self.programs.end_file(&mut notes);
+        self.show_own_harness(known.own_harness);
         let released = self.held.release();
         self.show_released(&released, output)?;
-        let build = self.build.take().or(told.build);
+        let build = self.build.take().or(known.build);
         if let Some(build) = &build {
             self.show_build(build, output)?;
             notes.retain(|note| !is_said_by_build(note));

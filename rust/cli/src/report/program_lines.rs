@@ -35,7 +35,7 @@ pub(crate) struct ProgramLines {
 }
 
 /// What is known at the end of a file.
-pub(crate) struct ToldAtEnd {
+pub(crate) struct KnownAtEnd {
     /// The name of the program that ended with the file, as `ProgramLines::on_line` returns it.
     pub(crate) own_harness: Option<String>,
 
@@ -54,14 +54,14 @@ impl ProgramLines {
         self.count() && matches!(line.program(), Some(ProgramLine::CommandStarted))
     }
 
-    /// Takes a line of the run. Returns the name of the program that ended, if it has its own harness, told of no test,
-    /// and was not returned before.
+    /// Takes a line of the run. Returns the name of the program that ended, if it has its own harness, no suite or test of
+    /// it started, and it was not returned before.
     pub(crate) fn on_line(&mut self, line: &Line) -> Option<String> {
-        let told = line.program();
-        if !*self.count.get_or_insert(told.is_some()) {
+        let said = line.program();
+        if !*self.count.get_or_insert(said.is_some()) {
             return None;
         }
-        match told {
+        match said {
             None => {
                 if is_start(line.event()) {
                     self.is_silent = false;
@@ -97,7 +97,7 @@ impl ProgramLines {
     }
 
     /// Takes the end of a file, which made these notes known. Notes in them the exit status of the command.
-    pub(crate) fn end_file(&mut self, notes: &mut [Note]) -> ToldAtEnd {
+    pub(crate) fn end_file(&mut self, notes: &mut [Note]) -> KnownAtEnd {
         let count = self.count.take() == Some(true);
         if let Some(status) = self.status.take() {
             notes.iter_mut().for_each(|note| set_status(note, status));
@@ -106,7 +106,7 @@ impl ProgramLines {
         let messages = mem::take(&mut self.messages);
         let end = notes.iter().find_map(end_of_command);
         let is_failed_build = count && !has_started && (messages.have_errors() || end.is_some());
-        ToldAtEnd {
+        KnownAtEnd {
             own_harness: self.end_program(),
             build: is_failed_build.then(|| FailedBuild {
                 messages,

@@ -21,7 +21,7 @@ pub struct Facts {
     /// Why the run is cancelled, as its lines say.
     cancelled: Option<CancelReason>,
 
-    /// The programs with their own harness that told of no test, each with the number of notes before its end.
+    /// The programs with their own harness that wrote no event of a test, each with the number of notes before its end.
     pub without_report: Vec<(usize, String)>,
 
     /// What may have the panics of failed tests without an output, by the places of their notes: what their programs wrote
@@ -38,9 +38,9 @@ struct Prints {
     starts: BTreeMap<String, usize>,
 }
 
-/// What lines of programs tell beside notes.
+/// What lines of programs say that notes do not have.
 #[derive(Default)]
-struct Told {
+struct Programs {
     /// The program with its own harness that runs.
     program: Option<String>,
     cancelled: Option<CancelReason>,
@@ -74,13 +74,13 @@ impl Facts {
     pub fn of(files: &[Vec<u8>]) -> Facts {
         let mut run = ProgramRun::new(TestRun::new(SLOW));
         let (mut notes, mut others) = (Vec::new(), Vec::new());
-        let (mut told, mut without_report) = (Told::default(), Vec::new());
+        let (mut programs, mut without_report) = (Programs::default(), Vec::new());
         let mut texts = BTreeMap::new();
         for (place, file) in files.iter().enumerate() {
             if place > 0 {
-                without_report.extend(Some(notes.len()).zip(told.program.take()));
+                without_report.extend(Some(notes.len()).zip(programs.program.take()));
                 let known = run.end_file().expect("the numbers fit");
-                notes.extend(told.with_status(known));
+                notes.extend(programs.with_status(known));
             }
             let first = lines_of(file).next().map(Line::read);
             let has_programs = first.is_some_and(|line| line.program().is_some());
@@ -92,8 +92,8 @@ impl Facts {
                     others.push(b'\n');
                 }
                 if has_programs {
-                    without_report.extend(Some(notes.len()).zip(told.on_line(&line)));
-                    release(&mut told, line.program(), &mut notes, &mut texts);
+                    without_report.extend(Some(notes.len()).zip(programs.on_line(&line)));
+                    release(&mut programs, line.program(), &mut notes, &mut texts);
                 } else if run.run().first_running().is_some() {
                     prints.add(&line, bytes);
                 } else {
@@ -105,19 +105,19 @@ impl Facts {
                 let mut known = run.on_line(&line).expect("the numbers fit");
                 // Tests that were not run come after what the rest of the line says.
                 known.sort_by_key(|note| matches!(note, Note::NotRun(_) | Note::Suite(_)));
-                for note in known.into_iter().filter_map(|note| told.shown(note)) {
+                for note in known.into_iter().filter_map(|note| programs.shown(note)) {
                     if let Some(test) = test_of(&note).filter(|_| !has_programs) {
                         texts.insert(notes.len(), prints.since_start(&test.name).to_string());
                     }
                     notes.push(note);
                 }
             }
-            told.runs = false;
-            release(&mut told, None, &mut notes, &mut texts);
+            programs.runs = false;
+            release(&mut programs, None, &mut notes, &mut texts);
         }
         let finished = run.finish(None, false).expect("the numbers fit");
-        without_report.extend(Some(notes.len()).zip(told.program.take()));
-        notes.extend(told.with_status(finished.notes));
+        without_report.extend(Some(notes.len()).zip(programs.program.take()));
+        notes.extend(programs.with_status(finished.notes));
         let mut names: Vec<String> = Vec::new();
         without_report.retain(|(_, name)| {
             let is_new = !names.contains(name);
@@ -128,7 +128,7 @@ impl Facts {
             notes,
             end: finished.end,
             others,
-            cancelled: told.cancelled,
+            cancelled: programs.cancelled,
             without_report,
             texts,
         }
@@ -235,7 +235,7 @@ pub fn failure_of(test: &TestNote) -> Option<&Failure> {
 
 /// Adds the notes that wait, if this line says that their program is over, or if there is no program any more.
 fn release(
-    told: &mut Told,
+    programs: &mut Programs,
     line: Option<&ProgramLine>,
     notes: &mut Vec<Note>,
     texts: &mut BTreeMap<usize, String>,
@@ -243,10 +243,10 @@ fn release(
     let text = match line {
         Some(ProgramLine::ProgramEnded { stderr, .. }) => stderr.as_str(),
         Some(ProgramLine::ProgramStarted(_) | ProgramLine::CommandEnded { .. }) => "",
-        None if !told.runs => "",
+        None if !programs.runs => "",
         _ => return,
     };
-    for note in told.held.drain(..) {
+    for note in programs.held.drain(..) {
         texts.insert(notes.len(), text.to_string());
         notes.push(note);
     }
@@ -298,14 +298,14 @@ impl Prints {
     }
 }
 
-impl Told {
+impl Programs {
     /// Returns a note that is shown now, or keeps it: a failed test whose output was not captured becomes known with its
     /// program, and so does its suite.
     fn shown(&mut self, note: Note) -> Option<Note> {
         let waits = match &note {
             Note::Test(test) => failure_of(test).is_some_and(|failure| {
-                let is_told = matches!(failure.kind, FailureKind::Failed | FailureKind::TimedOut);
-                is_told && failure.stdout.is_none()
+                let has_line = matches!(failure.kind, FailureKind::Failed | FailureKind::TimedOut);
+                has_line && failure.stdout.is_none()
             }),
             Note::Suite(_) => !self.held.is_empty(),
             _ => false,
@@ -332,7 +332,7 @@ impl Told {
     }
 
     /// Takes a line of a file in which lines of programs count. Returns the program that ends with it, if it has its own
-    /// harness and told of no test.
+    /// harness and wrote no event of a test.
     fn on_line(&mut self, line: &Line) -> Option<String> {
         let started = line.program().and_then(|line| match line {
             ProgramLine::ProgramStarted(start) => Some(start),

@@ -1,4 +1,4 @@
-//! Runs that a generator writes, in which lines tell how each program, and the command, started and ended.
+//! Runs that a generator writes, in which lines say how each program, and the command, started and ended.
 
 use crate::generated::Generator;
 use serde_json::{Value, json};
