@@ -4,9 +4,10 @@ use crate::report::entry::Entry;
 use crate::report::escape::{line, text};
 use crate::report::failure::ShownFailure;
 use crate::report::limit::Limit;
+use crate::report::model::PlaceModel;
 use crate::report::options::Options;
 use crate::report::output::Text;
-use crate::report::problem::Problem;
+use crate::report::problem::{Problem, ProblemSource};
 use crate::report::words::{outcome_text, summary, title};
 use crate::report_text::{Kind, Property, PropertyName};
 use deodarsieve_run::RunEnd;
@@ -36,14 +37,8 @@ impl Annotation {
 
     /// Returns the annotation of a failed test: its place, its name, and why it failed.
     fn of_failure(failure: &ShownFailure<'_>, options: Options) -> Annotation {
-        let mut properties = Vec::new();
-        if let Some(place) = failure.place {
-            properties.push((PropertyName::File, line(place.file)));
-            properties.push((PropertyName::Line, place.line.to_string()));
-            if let Some(column) = place.column {
-                properties.push((PropertyName::Column, column.to_string()));
-            }
-        }
+        let place = failure.place.map(PlaceModel::from);
+        let mut properties = place_properties(place);
         let title = title(failure.test);
         let why = failure.why_by(options);
         let message = format!("{title}\n{}", text(&why.text));
@@ -69,23 +64,19 @@ impl Annotation {
 
     /// Returns the annotation of an error of the compiler: its place, its target and its text.
     fn of_compiler_error(problem: &Problem<'_>, options: Options) -> Annotation {
-        let mut properties = Vec::new();
-        let mut why = None;
-        if let Some(source) = &problem.source {
-            if let Some(place) = source.place() {
-                properties.push((PropertyName::File, line(&place.file)));
-                properties.push((PropertyName::Line, place.line.to_string()));
-                properties.push((PropertyName::Column, place.column.to_string()));
-            }
-            let title = format!("could not compile {}", source.target);
-            properties.push((PropertyName::Title, title));
-            why = source
-                .text()
-                .map(|whole| text(&Limit::of(options).shown(&whole)));
+        let (mut properties, mut why) = (Vec::new(), None);
+        if let Some(ProblemSource { target, error }) = problem.source {
+            properties = place_properties(error.diagnostic().place().map(PlaceModel::from));
+            properties.push((PropertyName::Title, format!("could not compile {target}")));
+            why = error.text();
         }
+        let message = match why {
+            Some(why) => text(&Limit::of(options).shown(&why)),
+            None => problem.line.clone(),
+        };
         Annotation {
             properties,
-            message: why.unwrap_or_else(|| problem.line.clone()),
+            message,
         }
     }
 
@@ -100,16 +91,32 @@ impl Annotation {
     }
 }
 
-/// Appends the notice with the summary and the outcome of a run.
-pub(crate) fn push_notice(end: &RunEnd, text: &mut Text) {
-    let message = format!("{}, outcome {}", summary(end), outcome_text(end.outcome));
-    text.push_command(Kind::Notice, &[], &message);
+/// Returns the properties that say a place, if there is one.
+fn place_properties(place: Option<PlaceModel>) -> Vec<(PropertyName, String)> {
+    let Some(PlaceModel {
+        file,
+        line: number,
+        column,
+    }) = place
+    else {
+        return Vec::new();
+    };
+    let column = column.map(|column| (PropertyName::Column, column));
+    let front = [
+        (PropertyName::File, line(&file)),
+        (PropertyName::Line, number),
+    ];
+    front.into_iter().chain(column).collect()
 }
 
-/// Appends the notice that the tests could not be built.
-pub(crate) fn push_build_notice(end: &RunEnd, text: &mut Text) {
-    let outcome = outcome_text(end.outcome);
-    let message = format!("the tests could not be built, outcome {outcome}");
+/// Appends the notice with the summary of a run, or that the tests could not be built, and with the outcome.
+pub(crate) fn push_notice(end: &RunEnd, is_build: bool, text: &mut Text) {
+    let what = if is_build {
+        "the tests could not be built".to_string()
+    } else {
+        summary(end)
+    };
+    let message = format!("{what}, outcome {}", outcome_text(end.outcome));
     text.push_command(Kind::Notice, &[], &message);
 }
 

@@ -3,39 +3,10 @@
 use deodarsieve_run::ProgramEnd;
 
 /// The names of the signals from 1 on, as Linux has them.
-const SIGNALS: [&str; 31] = [
-    "SIGHUP",
-    "SIGINT",
-    "SIGQUIT",
-    "SIGILL",
-    "SIGTRAP",
-    "SIGABRT",
-    "SIGBUS",
-    "SIGFPE",
-    "SIGKILL",
-    "SIGUSR1",
-    "SIGSEGV",
-    "SIGUSR2",
-    "SIGPIPE",
-    "SIGALRM",
-    "SIGTERM",
-    "SIGSTKFLT",
-    "SIGCHLD",
-    "SIGCONT",
-    "SIGSTOP",
-    "SIGTSTP",
-    "SIGTTIN",
-    "SIGTTOU",
-    "SIGURG",
-    "SIGXCPU",
-    "SIGXFSZ",
-    "SIGVTALRM",
-    "SIGPROF",
-    "SIGWINCH",
-    "SIGIO",
-    "SIGPWR",
-    "SIGSYS",
-];
+const SIGNALS: &str = "\
+    SIGHUP SIGINT SIGQUIT SIGILL SIGTRAP SIGABRT SIGBUS SIGFPE SIGKILL SIGUSR1 SIGSEGV SIGUSR2 SIGPIPE \
+    SIGALRM SIGTERM SIGSTKFLT SIGCHLD SIGCONT SIGSTOP SIGTSTP SIGTTIN SIGTTOU SIGURG SIGXCPU SIGXFSZ \
+    SIGVTALRM SIGPROF SIGWINCH SIGIO SIGPWR SIGSYS";
 
 /// Returns the end of a crash, such as `status 7` or `signal: 6, SIGABRT`.
 pub(crate) fn crash_end(end: ProgramEnd) -> String {
@@ -67,7 +38,7 @@ pub(crate) fn end_name(end: ProgramEnd) -> String {
 /// Returns the name of a signal, if it has one.
 fn signal_name(number: u64) -> Option<&'static str> {
     let place = usize::try_from(number.checked_sub(1)?).ok()?;
-    SIGNALS.get(place).copied()
+    SIGNALS.split(' ').nth(place)
 }
 
 #[cfg(test)]

@@ -2,8 +2,8 @@
 
 use crate::report::limit::Limit;
 use crate::report::lines::{ten_written, written_count};
+use deodarsieve::TestOutputErrorSlice;
 use deodarsieve::counted::{HeadSpan, first_head, last_head};
-use deodarsieve::{ByteSubslice, TestOutputErrorSlice};
 use std::borrow::Cow;
 
 /// What is found in an output.
@@ -56,21 +56,20 @@ impl<'a> Found<'a> {
 
     /// Returns the slice that explains the failure as text.
     pub(crate) fn slice_text(&self) -> Option<&'a str> {
-        let part = subslice(self.slice?);
+        let part = self.slice?.combined_subslice()?;
         Some(&self.output[part.start..part.start + part.slice.len()])
+    }
+
+    /// Returns true if the slice that explains the failure is a panic.
+    pub(crate) fn is_panic(&self) -> bool {
+        matches!(self.slice, Some(TestOutputErrorSlice::PanicMessage { .. }))
     }
 
     /// Returns the explanation in the output. It is the slice that explains the failure. If that is a panic, the
     /// panics before it come first, since it may be what came of the first one.
     pub(crate) fn explanation(&self) -> Option<Explanation<'a>> {
-        let slice = self.slice?;
-        let part = subslice(slice);
-        let head = match slice {
-            TestOutputErrorSlice::PanicMessage { .. } => self.first,
-            TestOutputErrorSlice::ErrorStr { .. } | TestOutputErrorSlice::ShouldPanic { .. } => {
-                None
-            }
-        };
+        let part = self.slice?.combined_subslice()?;
+        let head = self.first.filter(|_| self.is_panic());
         let start = head.map_or(part.start, |head| head.start.min(part.start));
         Some(Explanation {
             output: self.output,
@@ -78,21 +77,6 @@ impl<'a> Found<'a> {
             slice: part.start,
             end: part.start + part.slice.len(),
         })
-    }
-}
-
-/// Returns the part of the output that a slice is.
-fn subslice(slice: TestOutputErrorSlice<'_>) -> ByteSubslice<'_> {
-    match slice {
-        TestOutputErrorSlice::PanicMessage {
-            stderr_subslice: part,
-        }
-        | TestOutputErrorSlice::ErrorStr {
-            stderr_subslice: part,
-        }
-        | TestOutputErrorSlice::ShouldPanic {
-            stdout_subslice: part,
-        } => part,
     }
 }
 

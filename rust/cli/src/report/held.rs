@@ -1,6 +1,7 @@
 //! Failed tests without a captured output, which become known when their program ends: it says then what they wrote.
 
-use deodarsieve_run::{FailureKind, Line, Note, ProgramLine, TestOutcome};
+use crate::report::thread_panic::uncaptured;
+use deodarsieve_run::{FailureKind, Line, Note, ProgramLine};
 use std::mem;
 
 /// The notes that wait for the end of the program that runs: of failed tests without an output, and of the suites after
@@ -59,18 +60,10 @@ impl HeldNotes {
 
     /// Returns true if a note waits. A suite does after one of its tests.
     fn waits(&self, note: &Note) -> bool {
-        match note {
-            Note::Test(test) => match &test.outcome {
-                TestOutcome::Failed(failure) => match failure.kind {
-                    FailureKind::Failed | FailureKind::TimedOut => failure.stdout.is_none(),
-                    FailureKind::WithoutEnd | FailureKind::Flaky | FailureKind::Crashed(_) => false,
-                },
-                TestOutcome::Passed { .. } | TestOutcome::Skipped { .. } | TestOutcome::Stopped => {
-                    false
-                }
-            },
-            Note::Suite(_) => !self.notes.is_empty(),
-            Note::Flaky(_) | Note::Disagreement(_) | Note::NotRun(_) => false,
+        match (note, uncaptured(note)) {
+            (Note::Suite(_), _) => !self.notes.is_empty(),
+            (_, Some((_, FailureKind::Failed | FailureKind::TimedOut))) => true,
+            (_, Some(_) | None) => false,
         }
     }
 }

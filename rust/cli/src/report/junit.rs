@@ -68,6 +68,15 @@ impl Counts {
         counts
     }
 
+    /// Returns the numbers of this many errors.
+    fn of_errors(count: usize) -> Counts {
+        Counts {
+            tests: count,
+            errors: count,
+            ..Counts::default()
+        }
+    }
+
     /// Returns the numbers as values.
     fn values(self) -> Values {
         Values::default()
@@ -83,11 +92,7 @@ impl Counts {
 pub(crate) fn junit(mut model: ReportModel, no_tests_pass: bool) -> Document {
     let suites = std::mem::take(&mut model.suites);
     let own = own_cases(&model, no_tests_pass);
-    let mut counts = Counts {
-        tests: own.len(),
-        errors: own.len(),
-        ..Counts::default()
-    };
+    let mut counts = Counts::of_errors(own.len());
     for suite in &suites {
         counts += Counts::of_cases(&suite.cases);
     }
@@ -113,16 +118,10 @@ fn own_suite(own: Vec<Values>) -> Option<Values> {
     if own.is_empty() {
         return None;
     }
-    let counts = Counts {
-        tests: own.len(),
-        errors: own.len(),
-        ..Counts::default()
-    };
-    let suite = counts.values().text("name", OWN_NAME);
-    Some(
-        own.into_iter()
-            .fold(suite, |suite, case| suite.item("case", case)),
-    )
+    let suite = Counts::of_errors(own.len()).values();
+    let suite = suite.text("name", OWN_NAME);
+    let add = |suite: Values, case| suite.item("case", case);
+    Some(own.into_iter().fold(suite, add))
 }
 
 /// Returns the values of a suite.

@@ -50,12 +50,12 @@ mod whole_output;
 mod words;
 
 use crate::report::advice::Advice;
-use crate::report::annotations::{Annotation, push_build_notice, push_failed_name, push_notice};
+use crate::report::annotations::{Annotation, push_failed_name, push_notice};
 use crate::report::build::FailedBuild;
 use crate::report::entry::Entry;
 use crate::report::fault::Fault;
 use crate::report::held::{HeldNotes, ReleasedNotes};
-use crate::report::model::{ModelBuilder, ReportModel, Wanted};
+use crate::report::model::{ModelBuilder, ReportModel};
 use crate::report::options::Options;
 use crate::report::output::Text;
 use crate::report::problem::Problem;
@@ -108,7 +108,7 @@ pub enum Format {
     Json,
 }
 
-/// Which files are written.
+/// Which documents are made.
 #[derive(Clone, Copy, Debug, Default, PartialEq, Eq)]
 pub struct Files {
     pub junit: bool,
@@ -117,7 +117,24 @@ pub struct Files {
     pub json: bool,
 }
 
-/// The texts of the files. A text is absent if its file is not written.
+impl Files {
+    /// Returns these documents and the one of standard output.
+    fn with(self, format: Format) -> Files {
+        Files {
+            junit: self.junit || format == Format::Junit,
+            html: self.html || format == Format::Html,
+            markdown: self.markdown || format == Format::Markdown,
+            json: self.json || format == Format::Json,
+        }
+    }
+
+    /// Returns true if all tests are listed with their whole outputs.
+    pub(crate) fn have_all_tests(self) -> bool {
+        self.junit || self.json
+    }
+}
+
+/// The texts of the documents. A text is absent if its document is not made.
 #[derive(Default)]
 pub struct FileTexts {
     pub junit: Option<Document>,
@@ -152,7 +169,9 @@ pub struct Report {
     panics: ThreadPanics,
     options: Options,
     format: Format,
-    files: Files,
+
+    /// The documents of files and of standard output.
+    documents: Files,
 
     /// The text that is not written yet.
     text: Text,
@@ -184,13 +203,8 @@ impl Report {
         file_names: VecDeque<String>,
     ) -> Report {
         let has_text = matches!(format, Format::Text | Format::Annotated { .. });
-        let wanted = Wanted {
-            all_tests: files.junit || files.json || matches!(format, Format::Junit | Format::Json),
-            page: files.html || format == Format::Html,
-            summary: files.markdown || format == Format::Markdown,
-            json: files.json || format == Format::Json,
-        };
-        let has_model = wanted.all_tests || wanted.page || wanted.summary;
+        let documents = files.with(format);
+        let has_model = documents != Files::default();
         Report {
             run: ProgramRun::new(TestRun::with_file_names(slow, file_names)),
             programs: ProgramLines::default(),
@@ -198,10 +212,10 @@ impl Report {
             panics: ThreadPanics::default(),
             options,
             format,
-            files,
+            documents,
             text: Text::new(options.raw && has_text),
             form: has_text.then(|| TextForm::new(options)),
-            model: has_model.then(|| ModelBuilder::new(wanted)),
+            model: has_model.then(|| ModelBuilder::new(documents)),
             build: None,
             names_hung_tests: false,
             is_command: false,
@@ -381,8 +395,8 @@ impl Report {
         write_texts(&mut texts, output)?;
         let mut files = FileTexts::default();
         if let Some(model) = self.model {
-            files = FileTexts::of(model.finish(&end), self.files, self.format, self.options);
-            files.write_to(self.format, output)?;
+            files = FileTexts::of(model.finish(&end), self.documents, self.options);
+            output.write_all(files.of_output(self.format).as_bytes())?;
         }
         output.flush()?;
         Ok(Ended {
@@ -416,11 +430,7 @@ impl Report {
             Format::Annotated { .. } | Format::Github { .. }
         ) {
             let mut notice = Text::new(false);
-            if is_build {
-                push_build_notice(end, &mut notice);
-            } else {
-                push_notice(end, &mut notice);
-            }
+            push_notice(end, is_build, &mut notice);
             texts.push(notice);
         }
         texts
@@ -563,12 +573,14 @@ fn ends_part(note: &Note) -> bool {
 }
 
 impl FileTexts {
-    /// Returns the texts of the files and, if it is a document or JSON, that of standard output.
-    fn of(mut model: ReportModel, files: Files, format: Format, options: Options) -> FileTexts {
-        let html = files.html || format == Format::Html;
-        let markdown = files.markdown || format == Format::Markdown;
-        let json = files.json || format == Format::Json;
-        let junit = files.junit || format == Format::Junit;
+    /// Returns the texts of documents.
+    fn of(mut model: ReportModel, documents: Files, options: Options) -> FileTexts {
+        let Files {
+            junit,
+            html,
+            markdown,
+            json,
+        } = documents;
         FileTexts {
             json: json.then(|| Json::of(&model)),
             html: html.then(|| page(&mut model, !(markdown || junit))),
@@ -577,24 +589,15 @@ impl FileTexts {
         }
     }
 
-    /// Writes the text of standard output, if it is a document or JSON.
-    fn write_to(&self, format: Format, output: &mut impl Write) -> io::Result<()> {
+    /// Returns the document of standard output, or an empty text if there is none.
+    fn of_output(&self, format: Format) -> &str {
         let document = match format {
-            Format::Junit => &self.junit,
-            Format::Html => &self.html,
-            Format::Markdown => &self.markdown,
-            Format::Json => {
-                return self
-                    .json
-                    .as_ref()
-                    .map_or(Ok(()), |json| json.write_to(output));
-            }
-            Format::Text | Format::Annotated { .. } | Format::Github { .. } | Format::Names => {
-                &None
-            }
+            Format::Junit => self.junit.as_ref(),
+            Format::Html => self.html.as_ref(),
+            Format::Markdown => self.markdown.as_ref(),
+            Format::Json => return self.json.as_ref().map_or("", Json::as_str),
+            Format::Text | Format::Annotated { .. } | Format::Github { .. } | Format::Names => None,
         };
-        document
-            .as_ref()
-            .map_or(Ok(()), |document| document.write_to(output))
+        document.map_or("", Document::as_str)
     }
 }

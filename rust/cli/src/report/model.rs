@@ -1,10 +1,13 @@
 //! The model of a finished report, which documents and JSON show. Its texts are not escaped, except those of outputs in
 //! documents and of problems.
 
+use crate::cargo_message::SourcePlace;
+use crate::report::Files;
 use crate::report::entry::Entry;
 use crate::report::escape::{text, whole_text};
 use crate::report::failure::{ShownFailure, WholeLines};
 use crate::report::numbers::Numbers;
+use crate::report::place::Place;
 use crate::report::problem::{NO_TESTS, Problem, ProblemReason, ProblemSource};
 use crate::report::slowest::Slowest;
 use crate::report::stopped::stopped_words;
@@ -145,7 +148,27 @@ pub(crate) struct PlaceModel {
     pub(crate) file: String,
     pub(crate) line: String,
     #[serde(skip_serializing_if = "Option::is_none")]
-    column: Option<String>,
+    pub(crate) column: Option<String>,
+}
+
+impl From<Place<'_>> for PlaceModel {
+    fn from(place: Place<'_>) -> PlaceModel {
+        PlaceModel {
+            file: place.file.to_string(),
+            line: place.line.to_string(),
+            column: place.column.map(str::to_string),
+        }
+    }
+}
+
+impl From<SourcePlace> for PlaceModel {
+    fn from(place: SourcePlace) -> PlaceModel {
+        PlaceModel {
+            file: place.file,
+            line: place.line.to_string(),
+            column: Some(place.column.to_string()),
+        }
+    }
 }
 
 /// A problem other than a failed test.
@@ -284,19 +307,9 @@ impl OpenSuite {
     }
 }
 
-/// Which documents are made of a model.
-#[derive(Clone, Copy, Default)]
-pub(crate) struct Wanted {
-    /// All tests are listed with their whole outputs, by JUnit's XML or JSON.
-    pub(crate) all_tests: bool,
-    pub(crate) page: bool,
-    pub(crate) summary: bool,
-    pub(crate) json: bool,
-}
-
 /// The model of a report, until its run is over.
 pub(crate) struct ModelBuilder {
-    wanted: Wanted,
+    documents: Files,
     page_room: OutputRoom,
     summary_room: OutputRoom,
 
@@ -316,15 +329,15 @@ pub(crate) struct ModelBuilder {
 
 impl ModelBuilder {
     /// Returns the model of a run without entries.
-    pub(crate) fn new(wanted: Wanted) -> ModelBuilder {
+    pub(crate) fn new(documents: Files) -> ModelBuilder {
         ModelBuilder {
-            wanted,
+            documents,
             page_room: PAGE_ROOM,
             summary_room: SUMMARY_ROOM,
             open: BTreeMap::new(),
             suites: Vec::new(),
             problems: Vec::new(),
-            slowest: Slowest::new(if wanted.page { SLOWEST } else { 0 }),
+            slowest: Slowest::new(if documents.html { SLOWEST } else { 0 }),
             skips: Vec::new(),
             flaky: Vec::new(),
             failed: 0,
@@ -347,16 +360,15 @@ impl ModelBuilder {
     /// Keeps a test that passed.
     fn on_passed(&mut self, test: &TestNote) {
         self.slowest.add(test.time, || title(test));
-        if self.wanted.page && test.attempts > 1 {
+        if self.documents.html && test.attempts > 1 {
             self.flaky.push(FlakyModel {
                 title: title(test),
                 attempts: test.attempts,
                 time: test.time.map(Seconds),
             });
         }
-        if self.wanted.all_tests {
-            let passed = TestModel::of(test, TestKind::Passed);
-            self.add(test.suite.as_ref(), CaseModel::Test(passed));
+        if self.documents.have_all_tests() {
+            self.add_test(test, TestKind::Passed);
         }
     }
 
@@ -366,22 +378,18 @@ impl ModelBuilder {
             TestOutcome::Skipped { reason } => reason.as_deref(),
             TestOutcome::Passed { .. } | TestOutcome::Stopped | TestOutcome::Failed(_) => None,
         };
-        if let Some(reason) = reason.filter(|_| self.wanted.page) {
+        if let Some(reason) = reason.filter(|_| self.documents.html) {
             self.skips.push((title(test), whole_text(reason)));
         }
-        if self.wanted.all_tests {
-            let skipped = TestKind::Skipped(reason.map(str::to_string));
-            let skipped = TestModel::of(test, skipped);
-            self.add(test.suite.as_ref(), CaseModel::Test(skipped));
+        if self.documents.have_all_tests() {
+            self.add_test(test, TestKind::Skipped(reason.map(str::to_string)));
         }
     }
 
     /// Keeps a stopped test.
     fn on_stopped(&mut self, test: &TestNote) {
-        if self.wanted.all_tests {
-            let kind = TestKind::Stopped(stopped_words(test));
-            let stopped = TestModel::of(test, kind);
-            self.add(test.suite.as_ref(), CaseModel::Test(stopped));
+        if self.documents.have_all_tests() {
+            self.add_test(test, TestKind::Stopped(stopped_words(test)));
         }
     }
 
@@ -391,25 +399,24 @@ impl ModelBuilder {
         self.slowest.add(test.time, || title(test));
         let why = failure.why();
         let stdout = failure.failure.stdout.as_deref();
+        let Files {
+            html,
+            markdown,
+            json,
+            ..
+        } = self.documents;
+        let has_all = self.documents.have_all_tests();
         let shorter = Some(failure)
-            .filter(|_| self.wanted.summary)
+            .filter(|_| markdown)
             .and_then(|failure| failure.why_within(MOST_BYTES_OF_TEXT));
-        let page = stdout.filter(|_| self.wanted.page && why.is_partial);
-        let summary =
-            stdout.filter(|_| self.wanted.summary && (why.is_partial || shorter.is_some()));
-        let json = Some(failure).filter(|_| self.wanted.json);
+        let page = stdout.filter(|_| html && why.is_partial);
+        let summary = stdout.filter(|_| markdown && (why.is_partial || shorter.is_some()));
+        let json = Some(failure).filter(|_| json);
         let failed = FailedModel {
             order: self.failed,
             result: FailedResult::of(&failure.failure.kind),
-            place: failure
-                .place
-                .filter(|_| self.wanted.all_tests)
-                .map(|place| PlaceModel {
-                    file: place.file.to_string(),
-                    line: place.line.to_string(),
-                    column: place.column.map(str::to_string),
-                }),
-            output: stdout.filter(|_| self.wanted.all_tests).map(str::to_string),
+            place: failure.place.filter(|_| has_all).map(PlaceModel::from),
+            output: stdout.filter(|_| has_all).map(str::to_string),
             whole_lines: json.and_then(ShownFailure::whole_lines),
             short: failure.short().into_owned(),
             why: why.text.clone(),
@@ -418,8 +425,7 @@ impl ModelBuilder {
             summary_output: summary.and_then(|output| self.summary_room.take(output)),
         };
         self.failed += 1;
-        let failed = TestModel::of(test, TestKind::Failed(Box::new(failed)));
-        self.add(test.suite.as_ref(), CaseModel::Test(failed));
+        self.add_test(test, TestKind::Failed(Box::new(failed)));
     }
 
     /// Keeps a problem.
@@ -434,6 +440,12 @@ impl ModelBuilder {
             why: problem.why.clone(),
             source: problem.source.as_ref().map(SourceModel::of),
         });
+    }
+
+    /// Adds a test to its suite.
+    fn add_test(&mut self, test: &TestNote, kind: TestKind) {
+        let case = CaseModel::Test(TestModel::of(test, kind));
+        self.add(test.suite.as_ref(), case);
     }
 
     /// Adds a case to the suite that has this name.
@@ -491,7 +503,7 @@ impl ReportModel {
 
 impl FailedResult {
     /// Returns how a test failed.
-    fn of(kind: &FailureKind) -> FailedResult {
+    pub(crate) fn of(kind: &FailureKind) -> FailedResult {
         match kind {
             FailureKind::Failed | FailureKind::WithoutEnd | FailureKind::Flaky => {
                 FailedResult::Failed
@@ -500,21 +512,26 @@ impl FailedResult {
             FailureKind::Crashed(_) => FailedResult::Crashed,
         }
     }
+
+    /// Returns the word for a failed test.
+    pub(crate) fn status(self) -> &'static str {
+        match self {
+            FailedResult::Failed => "FAIL",
+            FailedResult::TimedOut => "TIMEOUT",
+            FailedResult::Crashed => "CRASH",
+        }
+    }
 }
 
 impl SourceModel {
     /// Returns the source of an error of the compiler.
     fn of(source: &ProblemSource<'_>) -> SourceModel {
-        let place = source.place().map(|place| PlaceModel {
-            file: place.file,
-            line: place.line.to_string(),
-            column: Some(place.column.to_string()),
-        });
+        let diagnostic = source.error.diagnostic();
         SourceModel {
             target: source.target.to_string(),
-            code: source.code.map(str::to_string),
-            message: source.message.to_string(),
-            place,
+            code: diagnostic.code().map(str::to_string),
+            message: diagnostic.message.clone(),
+            place: diagnostic.place().map(PlaceModel::from),
         }
     }
 }

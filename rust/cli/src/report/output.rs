@@ -148,9 +148,7 @@ impl Template {
             None => unreachable!("this is no template: {template}"),
         }
     }
-}
 
-impl Template {
     /// Returns the parts that the template has for each item of a list in a section.
     pub(crate) fn item_parts(self, section: &str, list: &str) -> Vec<Part> {
         parts_for(parts_for(self.parts(), section), list)
@@ -188,13 +186,6 @@ impl Document {
     pub fn as_str(&self) -> &str {
         &self.text
     }
-
-    /// Writes the document.
-    ///
-    /// Fails if a write does.
-    pub(crate) fn write_to(&self, writer: &mut impl Write) -> io::Result<()> {
-        writer.write_all(self.text.as_bytes())
-    }
 }
 
 /// A line of JSON, in which no text begins a command of a CI system.
@@ -228,12 +219,5 @@ impl Json {
     /// Returns the line.
     pub fn as_str(&self) -> &str {
         &self.line
-    }
-
-    /// Writes the line.
-    ///
-    /// Fails if a write does.
-    pub(crate) fn write_to(&self, writer: &mut impl Write) -> io::Result<()> {
-        writer.write_all(self.line.as_bytes())
     }
 }

@@ -1,7 +1,6 @@
 //! Problems of a run other than failed tests: contradictions, suites whose tests were not all run, errors of the compiler,
 //! and that the run was cancelled.
 
-use crate::cargo_message::SourcePlace;
 use crate::report::build::CompilerError;
 use crate::report::ends::{end_name, ended_how};
 use crate::report::escape::{line, name};
@@ -51,28 +50,12 @@ pub(crate) struct Problem<'a> {
     pub(crate) source: Option<ProblemSource<'a>>,
 }
 
-/// The source of an error of the compiler. Its texts are not escaped, except the name of the target.
+/// The source of an error of the compiler.
 #[derive(Clone, Copy)]
 pub(crate) struct ProblemSource<'a> {
-    /// The target, such as `tracker (lib test)`.
+    /// The target, such as `tracker (lib test)`. It is escaped.
     pub(crate) target: &'a str,
-
-    /// The code of the error, or the name of the lint.
-    pub(crate) code: Option<&'a str>,
-    pub(crate) message: &'a str,
-    error: &'a CompilerError,
-}
-
-impl ProblemSource<'_> {
-    /// Returns the place of the error, if it has one.
-    pub(crate) fn place(&self) -> Option<SourcePlace> {
-        self.error.diagnostic().place()
-    }
-
-    /// Returns the whole text of the error, if there is one.
-    pub(crate) fn text(&self) -> Option<String> {
-        self.error.text()
-    }
+    pub(crate) error: &'a CompilerError,
 }
 
 /// What explains a problem. As JSON it is a text.
@@ -188,15 +171,9 @@ impl<'a> Problem<'a> {
             text: Limit::of(options).shown(&text).into_owned(),
             long_lines: LongLines::of(options.output),
         });
-        let diagnostic = error.diagnostic();
         Problem {
             why,
-            source: Some(ProblemSource {
-                target,
-                code: diagnostic.code(),
-                message: &diagnostic.message,
-                error,
-            }),
+            source: Some(ProblemSource { target, error }),
             ..Problem::new(None, COMPILER_ERROR, error.line(target))
         }
     }

@@ -164,12 +164,8 @@ fn is_start(event: Event<'_>) -> bool {
 /// Returns how a command ended that was started and failed, if a note says so.
 fn end_of_command(note: &Note) -> Option<&CommandEnd> {
     match note {
-        Note::Disagreement(Disagreement::Command(end)) => match end {
-            CommandEnd::NotStarted { .. } => None,
-            CommandEnd::Signal { .. } | CommandEnd::Status { .. } | CommandEnd::Error { .. } => {
-                Some(end)
-            }
-        },
+        Note::Disagreement(Disagreement::Command(CommandEnd::NotStarted { .. })) => None,
+        Note::Disagreement(Disagreement::Command(end)) => Some(end),
         Note::Test(_)
         | Note::Flaky(_)
         | Note::Disagreement(_)

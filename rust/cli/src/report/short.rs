@@ -6,7 +6,6 @@ use crate::report::failure::{crash_words, reason_of};
 use crate::report::lines::{first_line, last_written, ten_written};
 use crate::report::place::Place;
 use crate::report::thread_panic::thread_name;
-use deodarsieve::TestOutputErrorSlice;
 use deodarsieve::counted::{HeadSpan, last_head};
 use deodarsieve_run::{Crash, Failure, FailureKind, TestNote};
 use std::borrow::Cow;
@@ -86,32 +85,22 @@ fn said_at(place: &str, documented: Option<Place<'_>>) -> String {
         Some(own) if own.is_for(line) => format!("panicked at {}:{}:", own.file, own.line),
         Some(own) => format!("{}:{}: panicked at {line}", own.file, own.line),
     };
-    with_next(&words, first_line(rest).0)
-}
-
-/// Returns words. If they end in a colon, and the next line is not empty, that line follows after a space.
-fn with_next(words: &str, next: &str) -> String {
-    if words.ends_with(':') && !next.is_empty() {
-        format!("{words} {next}")
-    } else {
-        words.to_string()
+    match first_line(rest).0 {
+        next if words.ends_with(':') && !next.is_empty() => format!("{words} {next}"),
+        _ => words,
     }
 }
 
 /// Returns what says more than the slice that explains a failure, if that is a panic: an error that the test returned
 /// after it, or the panic of another thread before it.
 fn better_reason(found: &Found<'_>, documented: Option<Place<'_>>) -> Option<String> {
-    match found.slice? {
-        TestOutputErrorSlice::PanicMessage { .. } => {}
-        TestOutputErrorSlice::ErrorStr { .. } | TestOutputErrorSlice::ShouldPanic { .. } => {
-            return None;
-        }
+    if !found.is_panic() {
+        return None;
     }
-    let last = last_written(found.output);
-    if last.starts_with("Error: ") {
-        return Some(last.to_string());
+    match last_written(found.output) {
+        last if last.starts_with("Error: ") => Some(last.to_string()),
+        _ => other_thread(found).map(|head| said_by(found.output, head, documented)),
     }
-    other_thread(found).map(|head| said_by(found.output, head, documented))
 }
 
 /// Returns the head of the first panic, if it is of another thread than the last panic.

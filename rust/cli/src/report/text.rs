@@ -8,11 +8,12 @@ use crate::report::failure::ShownFailure;
 use crate::report::levels::{final_level, finished_output, has_line, skipped_output};
 use crate::report::limit::Limit;
 use crate::report::lines::without_returns;
+use crate::report::model::FailedResult;
 use crate::report::options::Options;
 use crate::report::output::Text;
 use crate::report::problem::{CONTRADICTION, Problem};
 use crate::report::slowest::Slowest;
-use crate::report::words::{failed_status, outcome_text, push_time_and_title, push_title, summary};
+use crate::report::words::{outcome_text, push_time_and_title, push_title, summary};
 use crate::report_text::Style;
 use deodarsieve::{FinalStatusLevel, OutputOnTestFinished, OutputStoreFinal, StatusLevel};
 use deodarsieve_run::{Finish, RunEnd, TestNote, TestOutcome};
@@ -195,7 +196,7 @@ impl TextForm {
     /// Takes a test that failed.
     fn on_failed(&mut self, failure: &ShownFailure<'_>, text: &mut Text) {
         let (test, kind, options) = (failure.test, &failure.failure.kind, self.options);
-        let (status, finish) = (failed_status(kind), Finish::of_failure(kind));
+        let (status, finish) = (FailedResult::of(kind).status(), Finish::of_failure(kind));
         let shows = finished_output(options, finish, test);
         if has_line(shows) {
             let attempts = match test.attempts {
@@ -235,7 +236,7 @@ impl TextForm {
         let (level, ended) = (final_level(Finish::Passed, test), test.ended.unwrap_or(0));
         if let Some(part) = self.list.part(level, ended, options.raw) {
             let status = match test.attempts {
-                0 | 1 if test.slow => "SLOW".to_string(),
+                0 | 1 if test.slow => "SLOW".into(),
                 _ => passed_status(test),
             };
             push_line(&status, test, STATUS_WIDTH, "\n", options, part);
@@ -253,14 +254,8 @@ impl TextForm {
             push_line("SKIP", test, 0, "\n", options, text);
         }
         if let OutputStoreFinal::Yes { .. } = shows.store_final {
-            push_line(
-                "SKIP",
-                test,
-                STATUS_WIDTH,
-                "\n",
-                options,
-                &mut self.list.skipped,
-            );
+            let part = &mut self.list.skipped;
+            push_line("SKIP", test, STATUS_WIDTH, "\n", options, part);
         }
     }
 

@@ -1,7 +1,7 @@
 //! The panics of threads in what their program printed.
 
 use deodarsieve::counted::{HeadSpan, first_head};
-use deodarsieve_run::{Note, TestOutcome};
+use deodarsieve_run::{FailureKind, Note, TestNote, TestOutcome};
 use std::collections::{BTreeMap, HashMap, VecDeque};
 
 /// How many bytes of the prints between the events of a run are looked through for panics: the last ones.
@@ -67,7 +67,8 @@ impl ThreadPanics {
 
     /// Returns the panics of the failed tests among notes whose outputs were not captured.
     pub(crate) fn of_tests<'a>(&self, notes: &'a [Note]) -> TestPanics<'a> {
-        let names = notes.iter().filter_map(uncaptured_name);
+        let tests = notes.iter().filter_map(uncaptured);
+        let names = tests.map(|(test, _)| test.name.as_str());
         names.map(|name| (name, self.of_thread(name))).collect()
     }
 
@@ -102,11 +103,13 @@ impl ThreadPanics {
     }
 }
 
-/// Returns the name of a failed test whose output was not captured.
-fn uncaptured_name(note: &Note) -> Option<&str> {
+/// Returns the test of a note, and how it failed, if its output was not captured.
+pub(crate) fn uncaptured(note: &Note) -> Option<(&TestNote, &FailureKind)> {
     match note {
         Note::Test(test) => match &test.outcome {
-            TestOutcome::Failed(failure) => failure.stdout.is_none().then_some(&test.name),
+            TestOutcome::Failed(failure) => {
+                failure.stdout.is_none().then_some((test, &failure.kind))
+            }
             TestOutcome::Passed { .. } | TestOutcome::Skipped { .. } | TestOutcome::Stopped => None,
         },
         Note::Flaky(_) | Note::Disagreement(_) | Note::NotRun(_) | Note::Suite(_) => None,

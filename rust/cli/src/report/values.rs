@@ -24,8 +24,7 @@
 
 use crate::report::escape::{name, shortened, text};
 use crate::report::model::{
-    CaseModel, FailedModel, FailedResult, FlakyModel, ProblemModel, ReportModel, Seconds,
-    SuiteModel, TestKind,
+    CaseModel, FailedModel, FlakyModel, ProblemModel, ReportModel, Seconds, SuiteModel, TestKind,
 };
 use crate::report::numbers::Numbers;
 use crate::report::output::{Document, Template};
@@ -82,6 +81,12 @@ impl Values {
         }
     }
 
+    /// Adds an item with a count, unless that is 0.
+    fn count(self, list: &'static str, count: usize) -> Values {
+        let item = (count > 0).then(|| Values::of("count", count.to_string()));
+        self.some(list, item)
+    }
+
     /// Adds an item without values, if a condition is true.
     pub(crate) fn mark(self, list: &'static str, condition: bool) -> Values {
         self.some(list, condition.then(Values::default))
@@ -126,7 +131,10 @@ pub(crate) fn page(model: &mut ReportModel, is_last: bool) -> Document {
         })
         .collect();
     let longest = model.slowest.first().map_or(0, |slow| slow.0).max(1);
+    let problems = model.problems.iter().map(problem_values);
     let suites = model.suites.iter().map(suite_row);
+    let skips = model.skips.iter();
+    let skips = skips.map(|(name, reason)| Values::of("name", name).text("reason", reason));
     let slowest = model.slowest.iter().map(|(time, title)| {
         let share = u128::from(*time) * 100 / u128::from(longest);
         Values::of("name", title)
@@ -136,22 +144,11 @@ pub(crate) fn page(model: &mut ReportModel, is_last: bool) -> Document {
     run_values(model)
         .text("outcome", model.outcome)
         .section("bar", "part", bar_parts(model.numbers))
-        .section(
-            "problems",
-            "problem",
-            model.problems.iter().map(problem_values),
-        )
+        .section("problems", "problem", problems)
         .section("failures", "failed", failures.into_iter())
         .section("suites", "suite", suites)
         .section("slowest", "slow", slowest)
-        .section(
-            "skips",
-            "skip",
-            model
-                .skips
-                .iter()
-                .map(|(name, reason)| Values::of("name", name).text("reason", reason)),
-        )
+        .section("skips", "skip", skips)
         .section("flaky_tests", "test", model.flaky.iter().map(flaky_values))
         .rendered(Template::Page)
 }
@@ -180,10 +177,7 @@ pub(crate) fn summary(model: &mut ReportModel, is_last: bool) -> Document {
     run_values(model)
         .section("problems", "problem", problems.into_iter())
         .section("failures", "failed", shown.into_iter())
-        .some(
-            "more",
-            (more > 0).then(|| Values::of("count", more.to_string())),
-        )
+        .count("more", more)
         .some("ran", outcome)
         .mark("no_tests", model.is_empty)
         .rendered(Template::Summary)
@@ -209,30 +203,17 @@ impl Room {
 
 /// Returns the numbers and the time of a run.
 fn run_values(model: &ReportModel) -> Values {
-    let Numbers {
-        finished,
-        passed,
-        flaky,
-        slow,
-        failed,
-        timed_out,
-        crashed,
-        skipped,
-        not_run,
-    } = model.numbers;
+    let numbers = model.numbers;
     Values::default()
-        .number("finished", finished)
-        .number("passed", passed)
-        .number("flaky", flaky)
-        .some(
-            "slow",
-            (slow > 0).then(|| Values::of("count", slow.to_string())),
-        )
-        .number("failed", failed)
-        .number("timed_out", timed_out)
-        .number("crashed", crashed)
-        .number("skipped", skipped)
-        .number("not_run", not_run)
+        .number("finished", numbers.finished)
+        .number("passed", numbers.passed)
+        .number("flaky", numbers.flaky)
+        .count("slow", numbers.slow)
+        .number("failed", numbers.failed)
+        .number("timed_out", numbers.timed_out)
+        .number("crashed", numbers.crashed)
+        .number("skipped", numbers.skipped)
+        .number("not_run", numbers.not_run)
         .time(model.time)
 }
 
@@ -384,16 +365,5 @@ impl<'a> Failure<'a> {
             .text("short", short)
             .text("why", why)
             .some("output", output)
-    }
-}
-
-impl FailedResult {
-    /// Returns the word for a result.
-    fn status(self) -> &'static str {
-        match self {
-            FailedResult::Failed => "FAIL",
-            FailedResult::TimedOut => "TIMEOUT",
-            FailedResult::Crashed => "CRASH",
-        }
     }
 }

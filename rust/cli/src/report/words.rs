@@ -4,7 +4,7 @@ use crate::report::escape::{name, push_name};
 use crate::report::numbers::Numbers;
 use crate::report_text::ReportText;
 use deodarsieve::RunOutcome;
-use deodarsieve_run::{FailureKind, FirstRunning, RunEnd, RunNumbers, TestNote, TestRun};
+use deodarsieve_run::{FirstRunning, RunEnd, RunNumbers, TestNote, TestRun};
 
 /// Returns the name of a test without the name of its suite and `$` at the front.
 fn own_name<'a>(suite: Option<&str>, name: &'a str) -> &'a str {
@@ -60,15 +60,6 @@ fn push_bracket(text: &mut String, time: Option<u64>) {
     if let Some(micros) = time {
         let (seconds, millis) = (micros / 1_000_000, micros / 1_000 % 1_000);
         text.push_str(&format!("[{seconds:>4}.{millis:03}s] "));
-    }
-}
-
-/// Returns the word for a failed test.
-pub(crate) fn failed_status(kind: &FailureKind) -> &'static str {
-    match kind {
-        FailureKind::TimedOut => "TIMEOUT",
-        FailureKind::Crashed(_) => "CRASH",
-        FailureKind::Failed | FailureKind::WithoutEnd | FailureKind::Flaky => "FAIL",
     }
 }
 
