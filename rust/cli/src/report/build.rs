@@ -3,7 +3,6 @@
 use crate::cargo_message::{Artifact, CargoMessage, CompilerMessage, Diagnostic, TargetId};
 use crate::report::escape::{line, name};
 use deodarsieve_run::CommandEnd;
-use std::borrow::Cow;
 use std::collections::hash_map::Entry;
 use std::collections::{HashMap, HashSet};
 
@@ -218,11 +217,9 @@ impl CompilerError {
 impl FailedTarget<'_> {
     /// Returns the line of the target in the text.
     pub(crate) fn line(&self) -> String {
-        let errors = match self.errors.len() {
-            1 => Cow::from("1 error"),
-            count => format!("{count} errors").into(),
-        };
-        format!("could not compile {}: {errors}", self.name)
+        let count = self.errors.len();
+        let end = if count == 1 { "" } else { "s" };
+        format!("could not compile {}: {count} error{end}", self.name)
     }
 }
 

@@ -1,7 +1,7 @@
 //! The explanation: the part of an output that says why a test failed.
 
 use crate::report::limit::Limit;
-use crate::report::lines::{ten_written, written_count};
+use crate::report::lines::written_count;
 use deodarsieve::TestOutputErrorSlice;
 use deodarsieve::counted::{HeadSpan, first_head, last_head};
 use std::borrow::Cow;
@@ -153,11 +153,6 @@ impl<'a> Excerpt<'a> {
         Excerpt {
             parts: vec![part.into()],
         }
-    }
-
-    /// Returns ten lines of an output, or `None` if all lines are blank.
-    pub(crate) fn of_ten_lines(output: &str) -> Option<Excerpt<'a>> {
-        ten_written(output).map(Excerpt::of)
     }
 
     /// Returns how many lines of the output it has that are not blank.

@@ -3,7 +3,7 @@
 use crate::report::ends::crash_end;
 use crate::report::explanation::{Excerpt, Explanation, Found};
 use crate::report::limit::{Limit, may_have_cut_lines};
-use crate::report::lines::{without_returns, written_count};
+use crate::report::lines::{ten_written, without_returns, written_count};
 use crate::report::options::{Options, OutputDisplay};
 use crate::report::place::Place;
 use crate::report::short::short_reason;
@@ -184,7 +184,7 @@ impl<'a> ShownFailure<'a> {
                 Some(explanation.excerpt_with_lines_before(above, limit))
             }
             (None, _) if is_crash || self.failure.message.is_some() => None,
-            (None, _) => Excerpt::of_ten_lines(all),
+            (None, _) => ten_written(all).map(Excerpt::of),
         }
     }
 

@@ -11,15 +11,6 @@ pub(crate) struct HeldNotes {
     notes: Vec<Note>,
 }
 
-/// Notes that become known with the end of their program.
-#[derive(Default)]
-pub(crate) struct ReleasedNotes {
-    pub(crate) notes: Vec<Note>,
-
-    /// What the program wrote to standard error, as far as the line of its end has it.
-    pub(crate) stderr: String,
-}
-
 impl HeldNotes {
     /// Keeps those of the notes of a line that wait, and returns the others.
     pub(crate) fn keep(&mut self, notes: Vec<Note>) -> Vec<Note> {
@@ -34,28 +25,23 @@ impl HeldNotes {
         others
     }
 
-    /// Returns the notes that wait, if a line says that their program is over.
-    pub(crate) fn released_by(&mut self, line: &Line) -> ReleasedNotes {
+    /// Returns the notes that wait, if a line says that their program is over, and what the program wrote to standard error,
+    /// as far as the line has it.
+    pub(crate) fn released_by<'a>(&mut self, line: &'a Line) -> (Vec<Note>, &'a str) {
         match line.program() {
-            Some(ProgramLine::ProgramEnded { stderr, .. }) => ReleasedNotes {
-                stderr: stderr.clone(),
-                ..self.release()
-            },
+            Some(ProgramLine::ProgramEnded { stderr, .. }) => (self.release(), stderr),
             Some(ProgramLine::ProgramStarted(_) | ProgramLine::CommandEnded { .. }) => {
-                self.release()
+                (self.release(), "")
             }
             Some(ProgramLine::CommandStarted | ProgramLine::CommandCancelled(_)) | None => {
-                ReleasedNotes::default()
+                (Vec::new(), "")
             }
         }
     }
 
-    /// Returns all notes that wait. Nothing is known of what their program wrote.
-    pub(crate) fn release(&mut self) -> ReleasedNotes {
-        ReleasedNotes {
-            notes: mem::take(&mut self.notes),
-            stderr: String::new(),
-        }
+    /// Returns all notes that wait.
+    pub(crate) fn release(&mut self) -> Vec<Note> {
+        mem::take(&mut self.notes)
     }
 
     /// Returns true if a note waits. A suite does after one of its tests.

@@ -54,7 +54,7 @@ use crate::report::annotations::{Annotation, push_failed_name, push_notice};
 use crate::report::build::FailedBuild;
 use crate::report::entry::Entry;
 use crate::report::fault::Fault;
-use crate::report::held::{HeldNotes, ReleasedNotes};
+use crate::report::held::HeldNotes;
 use crate::report::model::{ModelBuilder, ReportModel};
 use crate::report::options::Options;
 use crate::report::output::Text;
@@ -237,14 +237,14 @@ impl Report {
     /// Takes the advice for the case that no line of the command is one of a harness.
     pub fn set_advice(&mut self, advice: Advice) {
         if let Some(form) = &mut self.form {
-            form.set_advice(advice);
+            form.advice = advice;
         }
     }
 
     /// Notes whether the errors of the compiler are on standard error. Then the text leaves them out.
     pub fn set_errors_are_passed_on(&mut self, are_passed_on: bool) {
         if let Some(form) = &mut self.form {
-            form.set_errors_are_passed_on(are_passed_on);
+            form.errors_are_passed_on = are_passed_on;
         }
     }
 
@@ -291,8 +291,8 @@ impl Report {
         let mut notes = self.run.on_line(&line)?;
         notes.sort_by_key(comes_last);
         self.show_own_harness(ended);
-        let released = self.held.released_by(&line);
-        self.show_released(&released, output)?;
+        let (released, stderr) = self.held.released_by(&line);
+        self.show_released(&released, stderr, output)?;
         if self.programs.program().is_some() {
             notes = self.held.keep(notes);
         }
@@ -315,14 +315,15 @@ impl Report {
         }
     }
 
-    /// Writes the notes that become known with the end of their program.
+    /// Writes the notes that become known with the end of their program, which wrote `stderr` as far as is known.
     fn show_released(
         &mut self,
-        released: &ReleasedNotes,
+        notes: &[Note],
+        stderr: &str,
         output: &mut impl Write,
     ) -> Result<(), Fault> {
-        let panics = ThreadPanics::of(&released.stderr).of_tests(&released.notes);
-        self.show(&released.notes, &panics, output)
+        let panics = ThreadPanics::of(stderr).of_tests(notes);
+        self.show(notes, &panics, output)
     }
 
     /// Adds to the text for people that a test has run for a minute, if nothing else shows that.
@@ -359,11 +360,12 @@ impl Report {
         mut notes: Vec<Note>,
         output: &mut impl Write,
     ) -> Result<bool, Fault> {
-        let known = self.programs.end_file(&mut notes);
-        self.show_own_harness(known.own_harness);
+        let ended = self.programs.end_program();
+        self.show_own_harness(ended);
         let released = self.held.release();
-        self.show_released(&released, output)?;
-        let build = self.build.take().or(known.build);
+        self.show_released(&released, "", output)?;
+        let build = self.programs.end_file(&mut notes);
+        let build = self.build.take().or(build);
         if let Some(build) = &build {
             self.show_build(build, output)?;
             notes.retain(|note| !is_said_by_build(note));
@@ -421,7 +423,7 @@ impl Report {
     /// `lacks_events` if a command wrote no line of a harness.
     fn end_texts(&mut self, end: &RunEnd, is_build: bool, lacks_events: bool) -> Vec<Text> {
         let mut texts = match self.form.take() {
-            Some(form) if is_build => form.on_build_end(end),
+            Some(form) if is_build => vec![form.outcome(end)],
             Some(form) => form.on_end(end, lacks_events),
             None => Vec::new(),
         };

@@ -35,9 +35,18 @@ impl<'a> Place<'a> {
             .or_else(|| of_message(failure.message.as_deref()?).filter(ours))
     }
 
-    /// Returns the place in the name of a documentation test, or `None` for another test.
+    /// Returns the place in the name of a documentation test, `FILE - ITEM (line N)` or `FILE - (line N)`, or `None` for
+    /// another test.
     pub(crate) fn documented(test: &'a TestNote) -> Option<Place<'a>> {
-        documented(shown_name(test)).filter(|place| is_ours(place.file))
+        let (file, rest) = shown_name(test).split_once(" - ")?;
+        let (item, line) = rest.strip_suffix(')')?.rsplit_once("(line ")?;
+        let is_item = item.is_empty() || item.len() > 1 && item.ends_with(' ');
+        let is_place = !file.is_empty() && are_digits(line) && is_item && is_ours(file);
+        is_place.then_some(Place {
+            file,
+            line,
+            column: None,
+        })
     }
 
     /// Returns true if this is the place of a panic of a documentation test, given the end of the head. So it is unless
@@ -58,20 +67,6 @@ fn is_ours(path: &str) -> bool {
         path.starts_with(|c: char| c.is_ascii_alphabetic()) && path[1..].starts_with(':');
     let is_outside = |part: &str| part == ".." || part.starts_with("rustdoctest");
     !path.starts_with(is_slash) && !has_drive && !path.split(is_slash).any(is_outside)
-}
-
-/// Returns the place in the name of a documentation test: `FILE - ITEM (line N)` or `FILE - (line N)`. Returns
-/// `None` for another name.
-fn documented(name: &str) -> Option<Place<'_>> {
-    let (file, rest) = name.split_once(" - ")?;
-    let (item, line) = rest.strip_suffix(')')?.rsplit_once("(line ")?;
-    let is_item = item.is_empty() || item.len() > 1 && item.ends_with(' ');
-    let is_place = !file.is_empty() && are_digits(line) && is_item;
-    is_place.then_some(Place {
-        file,
-        line,
-        column: None,
-    })
 }
 
 /// Returns the place that the head of a panic names. This is the first panic if the test crashed or if it is of another

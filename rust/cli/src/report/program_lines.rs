@@ -34,15 +34,6 @@ pub(crate) struct ProgramLines {
     returned: BTreeSet<String>,
 }
 
-/// What is known at the end of a file.
-pub(crate) struct KnownAtEnd {
-    /// The name of the program that ended with the file, as `ProgramLines::on_line` returns it.
-    pub(crate) own_harness: Option<String>,
-
-    /// The build of the tests, if it failed.
-    pub(crate) build: Option<FailedBuild>,
-}
-
 impl ProgramLines {
     /// Returns true if lines of programs count in this file, as far as it was read.
     pub(crate) fn count(&self) -> bool {
@@ -63,7 +54,7 @@ impl ProgramLines {
         }
         match said {
             None => {
-                if is_start(line.event()) {
+                if let Event::SuiteStarted { .. } | Event::TestStarted { .. } = line.event() {
                     self.is_silent = false;
                     self.has_started = true;
                 }
@@ -96,8 +87,9 @@ impl ProgramLines {
         may_be_of_build && self.messages.on_line(line)
     }
 
-    /// Takes the end of a file, which made these notes known. Notes in them the exit status of the command.
-    pub(crate) fn end_file(&mut self, notes: &mut [Note]) -> KnownAtEnd {
+    /// Takes the end of a file, which made these notes known. Sets the exit status of the command in them. Returns the
+    /// build of the tests, if it failed.
+    pub(crate) fn end_file(&mut self, notes: &mut [Note]) -> Option<FailedBuild> {
         let count = self.count.take() == Some(true);
         if let Some(status) = self.status.take() {
             notes.iter_mut().for_each(|note| set_status(note, status));
@@ -106,13 +98,10 @@ impl ProgramLines {
         let messages = mem::take(&mut self.messages);
         let end = notes.iter().find_map(end_of_command);
         let is_failed_build = count && !has_started && (messages.have_errors() || end.is_some());
-        KnownAtEnd {
-            own_harness: self.end_program(),
-            build: is_failed_build.then(|| FailedBuild {
-                messages,
-                end: end.cloned(),
-            }),
-        }
+        is_failed_build.then(|| FailedBuild {
+            messages,
+            end: end.cloned(),
+        })
     }
 
     /// Notes that the run is cancelled.
@@ -131,7 +120,7 @@ impl ProgramLines {
     }
 
     /// Ends the program that runs, and returns its name if it has no report and was not returned before.
-    fn end_program(&mut self) -> Option<String> {
+    pub(crate) fn end_program(&mut self) -> Option<String> {
         let name = self.program.take().filter(|_| self.is_silent)?;
         self.returned.insert(name.clone()).then_some(name)
     }
@@ -151,14 +140,6 @@ fn set_status(note: &mut Note, status: i32) {
     if let Note::Disagreement(Disagreement::Command(CommandEnd::Status { code })) = note {
         *code = status.cast_unsigned();
     }
-}
-
-/// Returns true if a suite or a test starts.
-fn is_start(event: Event<'_>) -> bool {
-    matches!(
-        event,
-        Event::SuiteStarted { .. } | Event::TestStarted { .. }
-    )
 }
 
 /// Returns how a command ended that was started and failed, if a note says so.

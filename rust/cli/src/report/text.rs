@@ -38,10 +38,10 @@ pub(crate) struct TextForm {
     options: Options,
 
     /// The advice if there are no lines of a harness.
-    advice: Advice,
+    pub(crate) advice: Advice,
 
-    /// True if the errors of the compiler are on standard error.
-    errors_are_passed_on: bool,
+    /// True if the errors of the compiler are on standard error. Then they are left out.
+    pub(crate) errors_are_passed_on: bool,
     list: List,
 }
 
@@ -109,16 +109,6 @@ impl TextForm {
         }
     }
 
-    /// Takes the advice that a command needs.
-    pub(crate) fn set_advice(&mut self, advice: Advice) {
-        self.advice = advice;
-    }
-
-    /// Takes whether the errors of the compiler are on standard error. Then they are left out.
-    pub(crate) fn set_errors_are_passed_on(&mut self, are_passed_on: bool) {
-        self.errors_are_passed_on = are_passed_on;
-    }
-
     /// Appends the text of an entry, and keeps what the list has of it.
     pub(crate) fn on_entry(&mut self, entry: &Entry<'_>, text: &mut Text) {
         match entry {
@@ -131,11 +121,6 @@ impl TextForm {
             Entry::FailedTarget(target) => self.on_failed_target(target, text),
             Entry::Suite(_) | Entry::CompilerError(_) => {}
         }
-    }
-
-    /// Returns the end of the text of a run whose tests could not be built: the outcome.
-    pub(crate) fn on_build_end(&self, end: &RunEnd) -> Vec<Text> {
-        vec![self.outcome(end)]
     }
 
     /// Returns the end of the text: the summary, the list and the outcome. `lacks_events` is true if a command wrote no
@@ -156,8 +141,8 @@ impl TextForm {
         texts
     }
 
-    /// Returns the line of the outcome.
-    fn outcome(&self, end: &RunEnd) -> Text {
+    /// Returns the line of the outcome. A run whose tests could not be built has nothing else at its end.
+    pub(crate) fn outcome(&self, end: &RunEnd) -> Text {
         let mut outcome = Text::new(self.options.raw);
         outcome.push(&format!("outcome {}\n", outcome_text(end.outcome)));
         outcome

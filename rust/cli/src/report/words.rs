@@ -58,8 +58,7 @@ pub(crate) fn seconds_text(micros: u64) -> String {
 /// Appends a time in brackets and a space, at least as wide as `[   0.004s] `, or nothing without a time.
 fn push_bracket(text: &mut String, time: Option<u64>) {
     if let Some(micros) = time {
-        let (seconds, millis) = (micros / 1_000_000, micros / 1_000 % 1_000);
-        text.push_str(&format!("[{seconds:>4}.{millis:03}s] "));
+        text.push_str(&format!("[{:>8}s] ", seconds_text(micros)));
     }
 }
 
