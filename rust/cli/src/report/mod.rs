@@ -12,7 +12,8 @@
 //! | entries | `model` | one model of the finished report, which is JSON by its derives |
 //! | the model | `values`, `junit` | a page, a summary and JUnit's XML, through the proved templates |
 //!
-//! `program_lines` has what a report needs of lines of programs, and `held` the notes that wait for the end of a program.
+//! `program_lines` has what a report needs of lines of programs, `held` the notes that wait for the end of a program, and
+//! `thread_panic` the panics that were printed.
 //! `output` has the only types that standard output takes. `escape` shows control characters as escapes such as
 //! `\u{1b}`, and so does the type `ReportText` with what was not escaped before.
 
@@ -410,13 +411,13 @@ impl Report {
 
     /// Writes why the run was cancelled, if that is its outcome.
     fn show_cancelled(&mut self, end: &RunEnd, output: &mut impl Write) -> Result<(), Fault> {
-        match (end.outcome, self.programs.cancelled()) {
-            (RunOutcome::Cancelled { .. }, Some(reason)) => {
-                let problem = Problem::of_cancelled(reason);
-                self.show_entries([Entry::Problem(problem)].into_iter(), output)
-            }
-            _ => Ok(()),
+        if let RunOutcome::Cancelled { .. } = end.outcome
+            && let Some(reason) = self.programs.cancelled()
+        {
+            let problem = Problem::of_cancelled(reason);
+            self.show_entries([Entry::Problem(problem)].into_iter(), output)?;
         }
+        Ok(())
     }
 
     /// Returns the end of the text and of the annotations. `is_build` is true if the tests could not be built, and
@@ -577,15 +578,10 @@ fn ends_part(note: &Note) -> bool {
 impl FileTexts {
     /// Returns the texts of documents.
     fn of(mut model: ReportModel, documents: Files, options: Options) -> FileTexts {
-        let Files {
-            junit,
-            html,
-            markdown,
-            json,
-        } = documents;
+        let (markdown, junit) = (documents.markdown, documents.junit);
         FileTexts {
-            json: json.then(|| Json::of(&model)),
-            html: html.then(|| page(&mut model, !(markdown || junit))),
+            json: documents.json.then(|| Json::of(&model)),
+            html: (documents.html).then(|| page(&mut model, !(markdown || junit))),
             markdown: markdown.then(|| summary(&mut model, !junit)),
             junit: junit.then(|| junit::junit(model, options.no_tests_pass)),
         }

@@ -8,7 +8,7 @@ use crate::report::escape::{text, whole_text};
 use crate::report::failure::{ShownFailure, WholeLines};
 use crate::report::numbers::Numbers;
 use crate::report::place::Place;
-use crate::report::problem::{NO_TESTS, Problem, ProblemReason, ProblemSource};
+use crate::report::problem::{Problem, ProblemReason, ProblemSource};
 use crate::report::slowest::Slowest;
 use crate::report::stopped::stopped_words;
 use crate::report::suite_key::SuiteKey;
@@ -433,13 +433,7 @@ impl ModelBuilder {
         if problem.suite.is_some() {
             self.add(problem.suite, CaseModel::Problem(self.problems.len()));
         }
-        self.problems.push(ProblemModel {
-            kind: problem.kind,
-            suite: problem.suite.cloned(),
-            line: problem.line.clone(),
-            why: problem.why.clone(),
-            source: problem.source.as_ref().map(SourceModel::of),
-        });
+        self.problems.push(ProblemModel::of(problem));
     }
 
     /// Adds a test to its suite.
@@ -478,7 +472,7 @@ impl ModelBuilder {
         let is_empty = matches!(end.outcome, RunOutcome::NoTestsRun);
         let mut problems = self.problems;
         if is_empty {
-            problems.insert(0, ProblemModel::no_tests());
+            problems.insert(0, ProblemModel::of(&Problem::of_no_tests()));
         }
         ReportModel {
             outcome: outcome_text(end.outcome),
@@ -537,14 +531,14 @@ impl SourceModel {
 }
 
 impl ProblemModel {
-    /// Returns the problem that no test ran.
-    fn no_tests() -> ProblemModel {
+    /// Returns what is kept of a problem.
+    fn of(problem: &Problem<'_>) -> ProblemModel {
         ProblemModel {
-            kind: "no tests",
-            suite: None,
-            line: NO_TESTS.to_string(),
-            why: None,
-            source: None,
+            kind: problem.kind,
+            suite: problem.suite.cloned(),
+            line: problem.line.clone(),
+            why: problem.why.clone(),
+            source: problem.source.as_ref().map(SourceModel::of),
         }
     }
 

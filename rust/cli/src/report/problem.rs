@@ -17,9 +17,6 @@ use serde::Serialize;
 use std::borrow::Cow;
 use std::rc::Rc;
 
-/// The line of the problem that no test ran.
-pub(crate) const NO_TESTS: &str = "no test ran";
-
 /// The kind of a contradiction.
 pub(crate) const CONTRADICTION: &str = "disagreement";
 
@@ -153,6 +150,11 @@ impl<'a> Problem<'a> {
             | Disagreement::Program(_)
             | Disagreement::Cancelled(_) => problem,
         }
+    }
+
+    /// Returns the problem that no test ran.
+    pub(crate) fn of_no_tests() -> Problem<'a> {
+        Problem::new(None, "no tests", "no test ran".to_string())
     }
 
     /// Returns the problem that a run was cancelled.

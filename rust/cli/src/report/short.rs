@@ -2,31 +2,27 @@
 
 use crate::report::ends::crash_end;
 use crate::report::explanation::Found;
-use crate::report::failure::{crash_words, reason_of};
+use crate::report::failure::{crash_of, crash_words, reason_of};
 use crate::report::lines::{first_line, last_written, ten_written};
 use crate::report::place::Place;
 use crate::report::thread_panic::thread_name;
 use deodarsieve::counted::{HeadSpan, last_head};
-use deodarsieve_run::{Crash, Failure, FailureKind, TestNote};
+use deodarsieve_run::{Crash, Failure, TestNote};
 use std::borrow::Cow;
 
 /// Returns the short reason of a failure. `found` is what is found in its output.
 pub(crate) fn short_reason(test: &TestNote, failure: &Failure, found: &Found<'_>) -> String {
     let documented = Place::documented(test);
-    match &failure.kind {
-        FailureKind::Crashed(crash) => return crash_reason(crash, found, documented),
-        FailureKind::Failed if failure.reason.is_none() && failure.message.is_none() => {
-            if let Some(reason) = better_reason(found, documented) {
-                return reason;
-            }
-        }
-        FailureKind::Failed
-        | FailureKind::TimedOut
-        | FailureKind::WithoutEnd
-        | FailureKind::Flaky => {}
+    if let Some(crash) = crash_of(failure) {
+        return crash_reason(crash, found, documented);
     }
-    let first = reason_of(failure, test.time)
-        .or_else(|| failure.message.as_deref().map(Cow::from))
+    let said = reason_of(failure, test.time).or_else(|| failure.message.as_deref().map(Cow::from));
+    if said.is_none()
+        && let Some(reason) = better_reason(found, documented)
+    {
+        return reason;
+    }
+    let first = said
         .or_else(|| found.slice_text().map(Cow::from))
         .or_else(|| ten_written(found.output).map(Cow::from))
         .unwrap_or(Cow::from("no output was captured"));

@@ -158,18 +158,6 @@ impl TextForm {
         }
     }
 
-    /// Appends the line of a problem, under it what explains the problem, and how to get lines of a harness if there
-    /// were none.
-    fn push_problem(&mut self, problem: &Problem<'_>, text: &mut Text) {
-        text.push(&format!("{}\n", problem.line));
-        if let Some(why) = problem.why.as_ref().filter(|_| !problem.why_is_listed) {
-            text.push_indented(&why.shown(), MARGIN);
-        }
-        if problem.lacks_events {
-            self.push_advice(text);
-        }
-    }
-
     /// Appends the advice. That about a command comes once.
     fn push_advice(&mut self, text: &mut Text) {
         text.push(&self.advice.text());
@@ -272,9 +260,16 @@ impl TextForm {
         text.push(&format!("{program} has its own harness, and no report\n"));
     }
 
-    /// Takes a problem. The list has contradictions if it has failed tests, and among them.
+    /// Takes a problem: its line, under it what explains it, and how to get lines of a harness if there were none. The list
+    /// has contradictions if it has failed tests, and among them.
     fn on_problem(&mut self, problem: &Problem<'_>, text: &mut Text) {
-        self.push_problem(problem, text);
+        text.push(&format!("{}\n", problem.line));
+        if let Some(why) = problem.why.as_ref().filter(|_| !problem.why_is_listed) {
+            text.push_indented(&why.shown(), MARGIN);
+        }
+        if problem.lacks_events {
+            self.push_advice(text);
+        }
         let options = self.options;
         if problem.kind == CONTRADICTION && options.final_status_level >= FinalStatusLevel::Fail {
             let part = &mut self.list.failed;

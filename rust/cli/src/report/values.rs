@@ -131,7 +131,8 @@ pub(crate) fn page(model: &mut ReportModel, is_last: bool) -> Document {
         })
         .collect();
     let longest = model.slowest.first().map_or(0, |slow| slow.0).max(1);
-    let problems = model.problems.iter().map(problem_values);
+    let problems = model.problems.iter();
+    let problems = problems.map(|problem| problem_values(&problem.line, problem.shown_why()));
     let suites = model.suites.iter().map(suite_row);
     let skips = model.skips.iter();
     let skips = skips.map(|(name, reason)| Values::of("name", name).text("reason", reason));
@@ -161,7 +162,8 @@ pub(crate) fn summary(model: &mut ReportModel, is_last: bool) -> Document {
     let mut problems = room.fitting(&parts, model.problems.iter().map(problem_in_summary));
     let more = model.problems.len() - problems.len();
     if more > 0 {
-        problems.push(more_problems(more));
+        let line = format!("({more} more problems: a summary on GitHub holds 1 MiB)");
+        problems.push(problem_values(&line, None));
     }
     room.0 += MOST_BYTES_OF_SUMMARY - MOST_BYTES_OF_PROBLEMS;
     let failures = failures(model);
@@ -224,25 +226,14 @@ fn bar_parts(numbers: Numbers) -> impl Iterator<Item = Values> {
         .map(|(number, _, class)| Values::of("class", class).number("number", number))
 }
 
-/// Returns the values of a problem.
-fn problem_values(problem: &ProblemModel) -> Values {
-    values_of_problem(&problem.line, problem.shown_why())
-}
-
 /// Returns the values of a problem in a summary, where its line and what explains it are cut.
 fn problem_in_summary(problem: &ProblemModel) -> Values {
     let line = shortened(&problem.line, MOST_BYTES_OF_TEXT);
-    values_of_problem(&line, problem.why_in_summary())
-}
-
-/// Returns the values of the last problem of a summary that leaves out this number of others.
-fn more_problems(count: usize) -> Values {
-    let line = format!("({count} more problems: a summary on GitHub holds 1 MiB)");
-    values_of_problem(&line, None)
+    problem_values(&line, problem.why_in_summary())
 }
 
 /// Returns the values of a problem with this line and, if anything explains it, with this explanation.
-fn values_of_problem(line: &str, why: Option<String>) -> Values {
+fn problem_values(line: &str, why: Option<String>) -> Values {
     Values::of("line", line)
         .some("why", why.map(|why| Values::of("text", why)))
         .mark("line_code", line.contains('@'))
