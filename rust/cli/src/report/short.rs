@@ -17,7 +17,9 @@ pub(crate) fn short_reason(test: &TestNote, failure: &Failure, found: &Found<'_>
         return crash_reason(crash, found, documented);
     }
     let said = reason_of(failure, test.time).or_else(|| failure.message.as_deref().map(Cow::from));
+    // Of an output that was not captured, the lines after a panic may be of another test.
     if said.is_none()
+        && failure.stdout.is_some()
         && let Some(reason) = better_reason(found, documented)
     {
         return reason;
