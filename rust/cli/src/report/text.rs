@@ -17,6 +17,7 @@ use crate::report::words::{outcome_text, push_time_and_title, push_title, summar
 use crate::report_text::Style;
 use deodarsieve::{FinalStatusLevel, OutputOnTestFinished, OutputStoreFinal, StatusLevel};
 use deodarsieve_run::{Finish, RunEnd, TestNote, TestOutcome};
+use std::cmp::Reverse;
 use std::collections::BTreeMap;
 use std::iter::repeat_n;
 
@@ -48,44 +49,22 @@ pub(crate) struct TextForm {
 /// The list at the end: the tests that are stored for it, in the order of their levels, and the slowest. Contradictions
 /// and stopped tests are among the failed tests.
 struct List {
-    passed: Text,
-    skipped: Text,
-    slow: Text,
-
-    /// The flaky tests, by the number of tests that ended before them, and by how many were added before them.
-    flaky: BTreeMap<(usize, usize), Text>,
-    failed: Text,
+    /// The tests by their levels. Each flaky test has a part of its own, by the number of tests that ended before it, and by
+    /// how many parts were added before it.
+    parts: BTreeMap<(Reverse<FinalStatusLevel>, usize, usize), Text>,
     slowest: Slowest<Text>,
 }
 
 impl List {
-    /// Returns an empty list.
-    fn new(options: Options) -> List {
-        let empty = || Text::new(options.raw);
-        List {
-            passed: empty(),
-            skipped: empty(),
-            slow: empty(),
-            flaky: BTreeMap::new(),
-            failed: empty(),
-            slowest: Slowest::new(options.slowest),
-        }
-    }
-
-    /// Returns the part of the list for a level, to which the lines of a test are appended, or `None` if the list has no
-    /// such part. `ended` is the number of tests that ended before the test.
-    fn part(&mut self, level: FinalStatusLevel, ended: usize, is_raw: bool) -> Option<&mut Text> {
-        match level {
-            FinalStatusLevel::Pass => Some(&mut self.passed),
-            FinalStatusLevel::Skip => Some(&mut self.skipped),
-            FinalStatusLevel::Slow => Some(&mut self.slow),
-            FinalStatusLevel::Flaky => {
-                let place = (ended, self.flaky.len());
-                Some(self.flaky.entry(place).or_insert_with(|| Text::new(is_raw)))
-            }
-            FinalStatusLevel::Fail => Some(&mut self.failed),
-            _ => None,
-        }
+    /// Returns the part of the list for a level, to which the lines of a test are appended. `ended` is the number of tests
+    /// that ended before the test.
+    fn part(&mut self, level: FinalStatusLevel, ended: usize, options: Options) -> &mut Text {
+        let key = match level {
+            FinalStatusLevel::Flaky => (Reverse(level), ended, self.parts.len()),
+            _ => (Reverse(level), 0, 0),
+        };
+        let part = self.parts.entry(key);
+        part.or_insert_with(|| Text::new(options.raw))
     }
 
     /// Keeps the line of a test that ran, if it is one of the slowest so far.
@@ -105,7 +84,10 @@ impl TextForm {
             options,
             advice: Advice::Input,
             errors_are_passed_on: false,
-            list: List::new(options),
+            list: List {
+                parts: BTreeMap::new(),
+                slowest: Slowest::new(options.slowest),
+            },
         }
     }
 
@@ -133,9 +115,8 @@ impl TextForm {
         head.push(&format!("------------\n     Summary {}\n", summary(end)));
         let outcome = self.outcome(end);
         let list = self.list;
-        let mut texts = vec![head, list.passed, list.skipped, list.slow];
-        texts.extend(list.flaky.into_values());
-        texts.push(list.failed);
+        let mut texts = vec![head];
+        texts.extend(list.parts.into_values());
         texts.extend(list.slowest.into_tests().map(|(_, line)| line));
         texts.push(outcome);
         texts
@@ -185,13 +166,12 @@ impl TextForm {
         let OutputStoreFinal::Yes { display_output } = shows.store_final else {
             return;
         };
-        if let Some(part) = self.list.part(final_level(finish, test), 0, options.raw) {
-            push_line(status, test, STATUS_WIDTH, ": ", options, part);
-            part.push_input(&failure.short());
-            part.push("\n");
-            if display_output {
-                push_why(failure, LIST_MARGIN, part);
-            }
+        let part = self.list.part(final_level(finish, test), 0, options);
+        push_line(status, test, STATUS_WIDTH, ": ", options, part);
+        part.push_input(&failure.short());
+        part.push("\n");
+        if display_output {
+            push_why(failure, LIST_MARGIN, part);
         }
     }
 
@@ -207,15 +187,14 @@ impl TextForm {
             return;
         };
         let (level, ended) = (final_level(Finish::Passed, test), test.ended.unwrap_or(0));
-        if let Some(part) = self.list.part(level, ended, options.raw) {
-            let status = match test.attempts {
-                0 | 1 if test.slow => "SLOW".into(),
-                _ => passed_status(test),
-            };
-            push_line(&status, test, STATUS_WIDTH, "\n", options, part);
-            if display_output {
-                push_output(test, LIST_MARGIN, options, part);
-            }
+        let part = self.list.part(level, ended, options);
+        let status = match test.attempts {
+            0 | 1 if test.slow => "SLOW".into(),
+            _ => passed_status(test),
+        };
+        push_line(&status, test, STATUS_WIDTH, "\n", options, part);
+        if display_output {
+            push_output(test, LIST_MARGIN, options, part);
         }
     }
 
@@ -227,7 +206,7 @@ impl TextForm {
             push_line("SKIP", test, 0, "\n", options, text);
         }
         if let OutputStoreFinal::Yes { .. } = shows.store_final {
-            let part = &mut self.list.skipped;
+            let part = self.list.part(FinalStatusLevel::Skip, 0, options);
             push_line("SKIP", test, STATUS_WIDTH, "\n", options, part);
         }
     }
@@ -237,7 +216,7 @@ impl TextForm {
     fn on_stopped(&mut self, test: &TestNote) {
         let options = self.options;
         if test.cancel.is_some() && options.final_status_level >= FinalStatusLevel::Fail {
-            let part = &mut self.list.failed;
+            let part = self.list.part(FinalStatusLevel::Fail, 0, options);
             push_line("STOPPED", test, STATUS_WIDTH, "\n", options, part);
         }
     }
@@ -272,7 +251,7 @@ impl TextForm {
         }
         let options = self.options;
         if problem.kind == CONTRADICTION && options.final_status_level >= FinalStatusLevel::Fail {
-            let part = &mut self.list.failed;
+            let part = self.list.part(FinalStatusLevel::Fail, 0, options);
             let mut line = begun_line("ERROR", STATUS_WIDTH, options, part);
             line.push_str(&problem.line);
             line.push('\n');
