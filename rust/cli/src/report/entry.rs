@@ -5,7 +5,6 @@ use crate::report::failure::ShownFailure;
 use crate::report::options::Options;
 use crate::report::problem::Problem;
 use crate::report::stopped::StoppedTests;
-use crate::report::thread_panic::TestPanics;
 use deodarsieve_run::{Disagreement, Note, SuiteNote, TestNote, TestOutcome};
 
 /// A note of a run, or what a build that failed makes known, with what the forms show of it.
@@ -40,12 +39,12 @@ pub(crate) enum Entry<'a> {
 
 impl<'a> Entry<'a> {
     /// Returns the entry of a note, or `None` if no form shows it: that the run was cancelled is shown once, at its end.
-    /// `stopped` are the tests that became known as stopped at the same time, and `panics` are those of tests whose
-    /// outputs were not captured. Of the options it uses only `limit` and `output`.
+    /// `stopped` are the tests that became known as stopped at the same time, and `panics` is what was printed of the panics
+    /// of a test whose output was not captured. Of the options it uses only `limit` and `output`.
     pub(crate) fn of(
         note: &'a Note,
         stopped: &StoppedTests<'_>,
-        panics: &'a TestPanics<'_>,
+        panics: &'a str,
         options: Options,
     ) -> Option<Entry<'a>> {
         let entry = match note {

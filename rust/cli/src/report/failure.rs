@@ -7,7 +7,6 @@ use crate::report::lines::{ten_written, without_returns, written_count};
 use crate::report::options::{Options, OutputDisplay};
 use crate::report::place::Place;
 use crate::report::short::short_reason;
-use crate::report::thread_panic::TestPanics;
 use crate::report::words::seconds_text;
 use deodarsieve_run::{Crash, Failure, FailureKind, TestNote};
 use std::borrow::Cow;
@@ -77,15 +76,15 @@ impl Why {
 }
 
 impl<'a> ShownFailure<'a> {
-    /// Returns what is shown of a failed test. `panics` are those of tests whose outputs were not captured. Of the options
-    /// it uses only `limit` and `output`.
+    /// Returns what is shown of a failed test. `panics` is what was printed of its panics if its output was not captured. Of
+    /// the options it uses only `limit` and `output`.
     pub(crate) fn of(
         test: &'a TestNote,
         failure: &'a Failure,
-        panics: &'a TestPanics<'_>,
+        panics: &'a str,
         options: Options,
     ) -> Self {
-        let output = output_of(test, failure, panics);
+        let output = output_of(failure, panics);
         let found = Found::of(output);
         ShownFailure {
             test,
@@ -220,11 +219,11 @@ impl<'a> ShownFailure<'a> {
 
 /// Returns the text that may explain a failure: the prints before a crash, or else the output of the test or, if that was
 /// not captured, its panics.
-fn output_of<'a>(test: &TestNote, failure: &'a Failure, panics: &'a TestPanics<'_>) -> &'a str {
+fn output_of<'a>(failure: &'a Failure, panics: &'a str) -> &'a str {
     match (crash_of(failure), &failure.stdout) {
         (Some(crash), _) => &crash.prints,
         (None, Some(stdout)) => stdout,
-        (None, None) => panics.get(test.name.as_str()).map_or("", String::as_str),
+        (None, None) => panics,
     }
 }
 

@@ -63,7 +63,7 @@ use crate::report::problem::Problem;
 use crate::report::program_lines::ProgramLines;
 use crate::report::stopped::StoppedTests;
 use crate::report::text::TextForm;
-use crate::report::thread_panic::{TestPanics, ThreadPanics};
+use crate::report::thread_panic::ThreadPanics;
 use crate::report::values::{page, summary};
 use deodarsieve::{CancelReason, RunOutcome};
 use deodarsieve_run::{
@@ -71,6 +71,7 @@ use deodarsieve_run::{
 };
 use std::collections::VecDeque;
 use std::io::{self, Write};
+use std::iter::repeat;
 
 pub use crate::report::output::{Document, Json};
 pub use crate::report::words::progress_text;
@@ -297,7 +298,7 @@ impl Report {
         if self.programs.program().is_some() {
             notes = self.held.keep(notes);
         }
-        let panics = self.panics.of_tests(&notes);
+        let panics = self.panics.take_of(&notes);
         self.show(&notes, &panics, output)
     }
 
@@ -323,7 +324,7 @@ impl Report {
         stderr: &str,
         output: &mut impl Write,
     ) -> Result<(), Fault> {
-        let panics = ThreadPanics::of(stderr).of_tests(notes);
+        let panics = ThreadPanics::of(stderr).take_of(notes);
         self.show(notes, &panics, output)
     }
 
@@ -443,7 +444,7 @@ impl Report {
     /// they are dropped then.
     fn show_parts(&mut self, notes: Vec<Note>, output: &mut impl Write) -> Result<(), Fault> {
         for part in notes.split_inclusive(ends_part) {
-            self.show(part, &TestPanics::new(), output)?;
+            self.show(part, &[], output)?;
         }
         Ok(())
     }
@@ -466,16 +467,18 @@ impl Report {
         Ok(())
     }
 
-    /// Writes what notes make known at once. `panics` are those of tests whose outputs were not captured.
+    /// Writes what notes make known at once. `panics` has for the first notes what was printed of the panics of their tests.
     fn show(
         &mut self,
         notes: &[Note],
-        panics: &TestPanics<'_>,
+        panics: &[String],
         output: &mut impl Write,
     ) -> Result<(), Fault> {
         let (options, stopped) = (self.options, StoppedTests::of(notes));
-        let entries = notes.iter();
-        let entries = entries.filter_map(|note| Entry::of(note, &stopped, panics, options));
+        let panics = panics.iter().map(String::as_str).chain(repeat(""));
+        let entries = notes.iter().zip(panics);
+        let entries =
+            entries.filter_map(|(note, panics)| Entry::of(note, &stopped, panics, options));
         self.show_entries(entries, output)
     }
 

@@ -2,13 +2,10 @@
 
 use deodarsieve::counted::{HeadSpan, first_head};
 use deodarsieve_run::{FailureKind, Note, TestNote, TestOutcome};
-use std::collections::{BTreeMap, HashMap, VecDeque};
+use std::collections::{HashMap, VecDeque};
 
 /// How many bytes of the prints between the events of a run are looked through for panics: the last ones.
 const WINDOW: u64 = 65_536;
-
-/// The panics of failed tests whose outputs were not captured, by the names of the tests.
-pub(crate) type TestPanics<'a> = BTreeMap<&'a str, String>;
 
 /// The panics of threads in prints. Each print is looked at once.
 #[derive(Default)]
@@ -65,21 +62,24 @@ impl ThreadPanics {
         self.panics.remove(name);
     }
 
-    /// Returns the panics of the failed tests among notes whose outputs were not captured.
-    pub(crate) fn of_tests<'a>(&self, notes: &'a [Note]) -> TestPanics<'a> {
-        let tests = notes.iter().filter_map(uncaptured);
-        let names = tests.map(|(test, _)| test.name.as_str());
-        names.map(|name| (name, self.of_thread(name))).collect()
+    /// Takes the panics of the failed tests among notes whose outputs were not captured. Returns a text for each note, which
+    /// is empty for another one. A panic is taken once, so no text is searched for each of many tests of one name.
+    pub(crate) fn take_of(&mut self, notes: &[Note]) -> Vec<String> {
+        let texts = notes.iter().map(|note| match uncaptured(note) {
+            Some((test, _)) => self.take(&test.name),
+            None => String::new(),
+        });
+        texts.collect()
     }
 
-    /// Returns what was printed from the first panic of a thread up to that of another thread, or an empty text if the
-    /// thread has no panic.
-    fn of_thread(&self, name: &str) -> String {
-        let panics = self.panics.get(name).into_iter().flatten();
+    /// Takes the panics of a thread. Returns what was printed from the first one up to that of another thread, or an empty
+    /// text if the thread has none.
+    fn take(&mut self, thread: &str) -> String {
+        let panics = self.panics.remove(thread).into_iter().flatten();
         let own = panics
             .enumerate()
             .take_while(|(place, panic)| *place == 0 || panic.follows);
-        own.map(|(_, panic)| panic.text.as_str()).collect()
+        own.map(|(_, panic)| panic.text).collect()
     }
 
     /// Adds a line.
@@ -145,13 +145,14 @@ mod tests {
         let stderr = "log\n\nthread 'a' (7) panicked at src/a.rs:1:2:\nno\n\nthread 'b::c' panicked at src/b.rs:3:4:\nlost\n\
                       thread 'b::c' (8) panicked at src/b.rs:5:6:\nagain\nthread 'a' (7) panicked at src/a.rs:9:9:\nlate\n";
         let both = "thread 'b::c' panicked at src/b.rs:3:4:\nlost\nthread 'b::c' (8) panicked at src/b.rs:5:6:\nagain\n";
-        for panics in [ThreadPanics::of(stderr), printed(stderr.lines())] {
+        for mut panics in [ThreadPanics::of(stderr), printed(stderr.lines())] {
             assert_eq!(
-                panics.of_thread("a"),
+                panics.take("a"),
                 "thread 'a' (7) panicked at src/a.rs:1:2:\nno\n\n"
             );
-            assert_eq!(panics.of_thread("b::c"), both);
-            assert_eq!(panics.of_thread("c"), "");
+            assert_eq!(panics.take("b::c"), both);
+            assert_eq!(panics.take("c"), "");
+            assert_eq!(panics.take("a"), "", "it was taken");
         }
     }
 
@@ -166,14 +167,14 @@ mod tests {
             " thread 'a' (7) panicked at src/a.rs:1:2:\n",
             "thread 'a' (7) has overflowed its stack\n",
         ] {
-            assert_eq!(ThreadPanics::of(stderr).of_thread("a"), "", "{stderr}");
+            assert_eq!(ThreadPanics::of(stderr).take("a"), "", "{stderr}");
         }
     }
 
     #[test]
     fn the_last_panic_may_end_without_a_line_feed() {
         let stderr = "thread 'a (2)' (7) panicked at a.rs:1:2:\nno";
-        assert_eq!(ThreadPanics::of(stderr).of_thread("a (2)"), stderr);
+        assert_eq!(ThreadPanics::of(stderr).take("a (2)"), stderr);
     }
 
     #[test]
@@ -181,9 +182,9 @@ mod tests {
         let mut panics = printed(["thread 'a' panicked at a.rs:1:2:", "no"]);
         panics.on_test_started("a");
         panics.on_print(b"log");
-        assert_eq!(panics.of_thread("a"), "");
+        assert_eq!(panics.take("a"), "");
         panics.on_print(b"thread 'a' panicked at a.rs:3:4:");
-        assert_eq!(panics.of_thread("a"), "thread 'a' panicked at a.rs:3:4:\n");
+        assert_eq!(panics.take("a"), "thread 'a' panicked at a.rs:3:4:\n");
     }
 
     #[test]
@@ -194,16 +195,12 @@ mod tests {
         );
         // With their line feeds, `first`, `last` and the filling have 65,536 bytes.
         let filling = "x".repeat(65_536 - 2 * (first.len() + 1) - 1);
-        let mut panics = printed([first, &filling, last]);
-        assert_eq!(
-            panics.of_thread("a"),
-            format!("{first}\n{filling}\n{last}\n")
-        );
-        panics.on_print(b"");
-        assert_eq!(panics.of_thread("a"), format!("{last}\n\n"));
-        panics.on_print(filling.as_bytes());
-        panics.on_print(first.as_bytes());
-        assert_eq!(panics.of_thread("a"), format!("{first}\n"));
+        let both = format!("{first}\n{filling}\n{last}\n");
+        assert_eq!(printed([first, &filling, last]).take("a"), both);
+        let mut panics = printed([first, &filling, last, ""]);
+        assert_eq!(panics.take("a"), format!("{last}\n\n"));
+        let mut panics = printed([first, &filling, last, "", &filling, first]);
         assert_eq!((panics.order.len(), panics.panics.len()), (1, 1));
+        assert_eq!(panics.take("a"), format!("{first}\n"));
     }
 }

@@ -7,7 +7,7 @@ use deodarsieve_run::{
     CommandEnd, Disagreement, Event, Failure, FailureKind, Line, Note, ProgramEnd, ProgramFault,
     ProgramLine, ProgramRun, RunEnd, SaidNumbers, TestNote, TestOutcome, TestResult, TestRun,
 };
-use std::collections::BTreeMap;
+use std::collections::{BTreeMap, BTreeSet};
 use std::rc::Rc;
 
 /// The notes of a run, in the order in which a report shows them, and its end.
@@ -108,6 +108,9 @@ impl Facts {
                 for note in known.into_iter().filter_map(|note| programs.shown(note)) {
                     if let Some(test) = test_of(&note).filter(|_| !has_programs) {
                         texts.insert(notes.len(), prints.since_start(&test.name).to_string());
+                        if failure_of(test).is_some_and(|failure| failure.stdout.is_none()) {
+                            prints.starts.insert(test.name.clone(), prints.text.len());
+                        }
                     }
                     notes.push(note);
                 }
@@ -246,8 +249,12 @@ fn release(
         None if !programs.runs => "",
         _ => return,
     };
+    let mut names = BTreeSet::new();
     for note in programs.held.drain(..) {
-        texts.insert(notes.len(), text.to_string());
+        // The first test of a name has the panic.
+        if test_of(&note).is_some_and(|test| names.insert(test.name.clone())) {
+            texts.insert(notes.len(), text.to_string());
+        }
         notes.push(note);
     }
 }
