@@ -3,6 +3,7 @@
 
 use super::manifest::Manifest;
 use super::programs::TestProgram;
+use super::usual_harness::has_usual_harness;
 use crate::cargo_message::{Artifact, TargetId};
 use deodarsieve_run::SuiteNames;
 use std::collections::HashMap;
@@ -13,8 +14,8 @@ use std::path::{Path, PathBuf};
 pub struct Artifacts {
     programs: Vec<TestProgram>,
 
-    /// The manifests that were read, by their paths.
-    manifests: HashMap<PathBuf, Manifest>,
+    /// The manifests that were read, by their paths. One is `None` if it cannot be read.
+    manifests: HashMap<PathBuf, Option<Manifest>>,
 }
 
 impl Artifacts {
@@ -28,7 +29,10 @@ impl Artifacts {
                 .manifests
                 .entry(PathBuf::from(path))
                 .or_insert_with_key(|path| Manifest::read(path));
-            program.harness = !manifest.has_own_harness(&program.kind, &program.target);
+            program.harness = match manifest {
+                Some(manifest) => !manifest.has_own_harness(&program.kind, &program.target),
+                None => has_usual_harness(Path::new(&program.path)),
+            };
         }
         self.programs.push(program);
     }

@@ -5,7 +5,7 @@ use std::fs;
 use std::path::Path;
 
 /// The parts of a manifest that say which harness targets have.
-#[derive(Debug, Default, Deserialize)]
+#[derive(Debug, Deserialize)]
 pub struct Manifest {
     lib: Option<Target>,
 
@@ -30,15 +30,11 @@ struct Target {
 }
 
 impl Manifest {
-    /// Returns the manifest in a file. If it cannot be read, it says nothing.
-    pub fn read(path: &Path) -> Manifest {
-        let text = fs::read_to_string(path).unwrap_or_default();
-        Manifest::of(&text)
-    }
-
-    /// Returns the manifest of a text. If the text is none, it says nothing.
-    fn of(text: &str) -> Manifest {
-        toml::from_str(text).unwrap_or_default()
+    /// Returns the manifest in a file, or `None` if it cannot be read. Cargo may be able to read it all the same: the crate
+    /// `toml` knows an older TOML.
+    pub fn read(path: &Path) -> Option<Manifest> {
+        let text = fs::read_to_string(path).ok()?;
+        toml::from_str(&text).ok()
     }
 
     /// Returns true if the manifest says that a target has a harness of its own. `kind` is its first kind in cargo's
@@ -88,7 +84,7 @@ name = "speed"
 
     #[test]
     fn a_manifest_says_which_targets_have_their_own_harness() {
-        let manifest = Manifest::of(TEXT);
+        let manifest: Manifest = toml::from_str(TEXT).expect("the text is a manifest");
         for (kind, name, wanted) in [
             ("lib", "money", true),
             ("proc-macro", "money", true),
@@ -108,13 +104,17 @@ name = "speed"
     }
 
     #[test]
-    fn a_file_that_is_no_manifest_says_nothing() {
-        for text in ["", "[lib", "lib = 1", "[lib]\nharness = 0"] {
-            assert!(
-                !Manifest::of(text).has_own_harness("lib", "money"),
-                "{text}"
-            );
+    fn a_file_that_is_no_manifest_cannot_be_read() {
+        let folder = tempfile::tempdir().expect("a folder can be made");
+        let path = folder.path().join("Cargo.toml");
+        for text in ["[lib", "lib = 1", "[lib]\nharness = 0"] {
+            fs::write(&path, text).expect("the folder is there");
+            assert!(Manifest::read(&path).is_none(), "{text}");
         }
-        assert!(!Manifest::read(Path::new("/no/such/file")).has_own_harness("lib", "money"));
+        for text in ["", "\u{feff}[lib]\r\nharness = true\r\n"] {
+            fs::write(&path, text).expect("the folder is there");
+            assert!(Manifest::read(&path).is_some(), "{text}");
+        }
+        assert!(Manifest::read(Path::new("/no/such/file")).is_none());
     }
 }

@@ -16,4 +16,5 @@ pub mod running;
 pub mod settings;
 pub mod stand_in;
 pub mod system;
+mod usual_harness;
 mod watching;
