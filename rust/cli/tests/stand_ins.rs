@@ -428,3 +428,110 @@ fn rustdoc_has_lines_only_if_it_runs_tests() {
         assert_eq!(output.status.code(), Some(1));
     }
 }
+
+/// A program that runs until its file is gone, except that SIGTERM ends it with status 3, and that says when it is ready.
+const WAITS_AFTER_INTERRUPT: &str = "#!/bin/sh\ntrap : INT\ntrap ': >\"$0.ended\"; exit 3' TERM\necho $$ >\"$0.id\"\necho ready\n\
+    while [ -e \"$0\" ]; do sleep 0.05; done\n: >\"$0.left\"\n";
+
+/// Waits for a file, which must be there within a minute.
+fn wait_for_file(path: String) {
+    soon("the file", move || {
+        while !Path::new(&path).exists() {
+            std::thread::sleep(Duration::from_millis(10));
+        }
+    });
+}
+
+#[test]
+fn a_program_is_asked_to_end_if_nobody_reads_what_it_writes() {
+    let folder = Folder::new("unread");
+    let path = folder.script("program", WAITS);
+    let mut child = in_place_of(&path, &[]).spawn().expect("the program starts");
+    drop(wait_for(
+        child.stdout.take().expect("it is a pipe"),
+        "ready\n",
+    ));
+    assert_eq!(end_of(child).code(), Some(3));
+}
+
+#[test]
+fn a_program_is_asked_to_end_if_the_parent_of_its_stand_in_has_gone() {
+    let folder = Folder::new("orphan");
+    let path = folder.script("program", WAITS);
+    // The shell ends when it reads the line.
+    let script = r#""$0" --as-runner "$1" & read line"#;
+    let mut shell = Command::new("sh")
+        .args(["-c", script, path_of("test-report"), &path])
+        .stdin(Stdio::piped())
+        .stdout(Stdio::piped())
+        .spawn()
+        .expect("a shell starts");
+    let stdout = wait_for(shell.stdout.take().expect("it is a pipe"), "ready\n");
+    drop(shell.stdin.take());
+    assert!(shell.wait().is_ok());
+    let rest = rest_of(stdout);
+    assert!(rest.contains(r#""event":"ended","status":3"#), "{rest}");
+}
+
+#[test]
+fn a_program_that_got_ctrl_c_ends_by_itself() {
+    restore_interrupt();
+    let folder = Folder::new("unread-int");
+    let path = folder.script("program", WAITS_AFTER_INTERRUPT);
+    let mut child = in_place_of(&path, &[]).spawn().expect("the program starts");
+    let stdout = wait_for(child.stdout.take().expect("it is a pipe"), "ready\n");
+    send("INT", &child);
+    drop(stdout);
+    std::thread::sleep(Duration::from_millis(500));
+    assert!(!folder.0.join("program.ended").exists());
+    fs::remove_file(&path).expect("it is there");
+    wait_for_file(path + ".left");
+    assert_eq!(end_of(child).code(), Some(0));
+}
+
+/// A program that ignores SIGTERM, and leaves one process behind that ignores it and one that does not. Each writes a file
+/// when it is ready.
+#[cfg(target_os = "linux")]
+const STAYS: &str = "#!/bin/sh\n\
+    (trap 'exit 3' TERM; : >\"$0.one\"; while [ -e \"$0\" ]; do sleep 0.05; done) >/dev/null 2>&1 &\n\
+    trap '' TERM\n\
+    (: >\"$0.two\"; while [ -e \"$0\" ]; do sleep 0.05; done) >/dev/null 2>&1 &\n\
+    echo ready\nwhile [ -e \"$0\" ]; do sleep 0.05; done\n";
+
+/// Returns how many processes have this path among their arguments.
+#[cfg(target_os = "linux")]
+fn processes_with(path: &str) -> usize {
+    let processes = fs::read_dir("/proc").expect("it is there").flatten();
+    let arguments = processes.filter_map(|process| fs::read(process.path().join("cmdline")).ok());
+    let has_path = |arguments: &Vec<u8>| {
+        let mut words = arguments.split(|byte| *byte == 0);
+        words.any(|word| word == path.as_bytes())
+    };
+    arguments.filter(has_path).count()
+}
+
+#[test]
+#[cfg(target_os = "linux")]
+fn a_program_that_nobody_needs_is_killed_with_what_it_leaves_behind() {
+    let folder = Folder::new("stays");
+    let path = folder.script("program", STAYS);
+    let mut child = in_place_of(&path, &[]).spawn().expect("the program starts");
+    let stdout = wait_for(child.stdout.take().expect("it is a pipe"), "ready\n");
+    for file in ["one", "two"] {
+        wait_for_file(format!("{path}.{file}"));
+    }
+    // The stand-in, the program, and two that it started.
+    assert_eq!(processes_with(&path), 4);
+    let start = Instant::now();
+    drop(stdout);
+    std::thread::sleep(Duration::from_secs(1));
+    // Only an orphan is asked to end, and the program still runs.
+    assert_eq!(processes_with(&path), 4);
+    assert_eq!(end_of(child).signal(), Some(9));
+    let time = start.elapsed();
+    assert!(
+        time >= Duration::from_secs(10) && time < Duration::from_secs(20),
+        "{time:?}"
+    );
+    assert_eq!(processes_with(&path), 0);
+}

@@ -75,6 +75,17 @@ impl RunningCommand {
             terminate(&mut self.child);
         }
     }
+
+    /// Returns the number of the command's process.
+    pub fn id(&self) -> u32 {
+        self.child.id()
+    }
+
+    /// Ends the command, by SIGKILL, unless it has ended.
+    pub fn kill(&mut self) {
+        // If that fails, it has ended.
+        let _ = self.child.kill();
+    }
 }
 
 impl Drop for RunningCommand {

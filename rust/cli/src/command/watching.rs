@@ -4,7 +4,7 @@ use super::end::process_end;
 use super::last_output::LastOutput;
 use super::run_line::{ProgramLine, RunLine, StartedProgram, is_run_line};
 use super::running::RunningCommand;
-use super::system::Signals;
+use super::system::{Orphans, Signals};
 use crate::lines::Lines;
 use crate::process_streams::{LOOK, ProcessStreams, Stream};
 use std::io::{self, BufWriter, Write};
@@ -17,13 +17,17 @@ use std::time::{Duration, Instant};
 /// as the one before.
 const FIRST_LOOK: Duration = Duration::from_millis(1);
 
+/// How long a program that nobody needs any more, and what it left behind, have to end when they were asked to.
+const PATIENCE: Duration = Duration::from_secs(10);
+
 /// The most bytes of short lines that are written at once.
 const BUFFER: usize = 65_536;
 
 /// Runs a program, and tells `output` what it sees of it: that it starts, each line of its standard output, and how it
 /// ended. What the program writes to standard error goes to `errors` at once. Returns how the program ended.
 ///
-/// If nobody reads `output` any more, the program has no reader either.
+/// If nobody reads `output` any more, the program has no reader either. If nobody needs this process any more, the program
+/// and what it leaves behind are asked to end, and killed if they do not.
 ///
 /// Fails if the program cannot be started.
 pub fn watch(
@@ -33,7 +37,8 @@ pub fn watch(
     errors: impl Write,
 ) -> io::Result<ExitStatus> {
     let signals = Signals::catch()?;
-    let (mut running, stdout, stderr) = RunningCommand::start_apart(command)?;
+    let (running, stdout, stderr) = RunningCommand::start_apart(command)?;
+    let mut running = Watched::new(running, signals);
     let streams = ProcessStreams::start([
         (Stream::Output, Box::new(stdout)),
         (Stream::Error, Box::new(stderr)),
@@ -41,12 +46,13 @@ pub fn watch(
     let mut teller = Teller::new(output, errors);
     let is_told = teller
         .tell(&RunLine::Program(ProgramLine::Started(program)))
-        .and_then(|()| pass_on(streams, &mut running, &signals, &mut teller));
-    let status = wait_for(&mut running, &signals)?;
+        .and_then(|()| pass_on(streams, &mut running, &mut teller));
+    let status = wait_for(&mut running)?;
     if is_told.is_ok() {
         // If nobody reads it, it is not needed.
         let _ = teller.end(status);
     }
+    running.wait_for_orphans();
     Ok(status)
 }
 
@@ -55,8 +61,7 @@ pub fn watch(
 /// Fails if the output cannot be written.
 fn pass_on(
     mut streams: ProcessStreams,
-    running: &mut RunningCommand,
-    signals: &Signals,
+    running: &mut Watched,
     teller: &mut Teller<impl Write, impl Write>,
 ) -> io::Result<()> {
     while !streams.are_over(Instant::now()) {
@@ -64,7 +69,7 @@ fn pass_on(
         if let Ok(Some((stream, piece))) = streams.next_piece(LOOK) {
             teller.take(stream, &piece)?;
         }
-        pass_signal_on(running, signals);
+        running.pass_end_on();
         if running.status()?.is_some() {
             streams.note_end(Instant::now());
         }
@@ -73,7 +78,7 @@ fn pass_on(
 }
 
 /// Waits for the end of a program whose streams have ended.
-fn wait_for(running: &mut RunningCommand, signals: &Signals) -> io::Result<ExitStatus> {
+fn wait_for(running: &mut Watched) -> io::Result<ExitStatus> {
     let mut pause = FIRST_LOOK;
     loop {
         if let Some(status) = running.status()? {
@@ -81,14 +86,82 @@ fn wait_for(running: &mut RunningCommand, signals: &Signals) -> io::Result<ExitS
         }
         thread::sleep(pause);
         pause = LOOK.min(2 * pause);
-        pass_signal_on(running, signals);
+        running.pass_end_on();
     }
 }
 
-/// Sends SIGTERM on to a program. Ctrl-C on a terminal reaches the program by itself.
-fn pass_signal_on(running: &mut RunningCommand, signals: &Signals) {
-    if signals.take_terminate() {
-        running.terminate();
+/// A program, and what may ask it to end.
+struct Watched {
+    program: RunningCommand,
+    signals: Signals,
+
+    /// Set as soon as this process was found to be needed by nobody any more.
+    alone: Option<Alone>,
+}
+
+/// What a process does that nobody needs any more.
+struct Alone {
+    since: Instant,
+    orphans: Orphans,
+}
+
+impl Alone {
+    /// Returns true if what was asked to end has had its time.
+    fn is_late(&self) -> bool {
+        self.since.elapsed() >= PATIENCE
+    }
+}
+
+impl Watched {
+    /// Returns a program that nothing has asked to end.
+    fn new(program: RunningCommand, signals: Signals) -> Watched {
+        Watched {
+            program,
+            signals,
+            alone: None,
+        }
+    }
+
+    /// Returns the status with which the program ended, or `None` if it runs.
+    ///
+    /// Fails if the system does not say.
+    fn status(&mut self) -> io::Result<Option<ExitStatus>> {
+        self.program.status()
+    }
+
+    /// Sends SIGTERM on to the program. Ctrl-C on a terminal reaches the program by itself. If nobody needs it any more,
+    /// ends it and what it leaves behind.
+    fn pass_end_on(&mut self) {
+        if self.signals.take_terminate() {
+            self.program.terminate();
+        }
+        if self.alone.is_none() && self.signals.is_left_alone() {
+            self.alone = Some(Alone {
+                since: Instant::now(),
+                orphans: Orphans::adopt(),
+            });
+            self.program.terminate();
+        }
+        if self.alone.as_ref().is_some_and(Alone::is_late) {
+            self.program.kill();
+        }
+        self.end_orphans();
+    }
+
+    /// Ends what the program has left behind, if nobody needs it any more. Returns false if it runs.
+    fn end_orphans(&mut self) -> bool {
+        let program = self.program.id();
+        match &mut self.alone {
+            Some(alone) => alone.orphans.end(program, alone.is_late()),
+            None => true,
+        }
+    }
+
+    /// Waits for the end of what the program has left behind, if nobody needs it any more.
+    fn wait_for_orphans(&mut self) {
+        while !self.end_orphans() {
+            thread::sleep(LOOK);
+        }
     }
 }
 

@@ -20,6 +20,11 @@ impl Signals {
     pub fn take_terminate(&self) -> bool {
         false
     }
+
+    /// Returns false: nothing is known of the process that started this one.
+    pub fn is_left_alone(&self) -> bool {
+        false
+    }
 }
 
 /// Ends a child. If that fails, it has ended already.

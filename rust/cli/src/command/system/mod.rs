@@ -1,7 +1,13 @@
-//! What systems do in different ways: signals, how a process ends, and how it becomes another program.
+//! What systems do in different ways: signals, how a process ends, what becomes of those that it has started, and how it
+//! becomes another program.
 
 #[cfg(not(unix))]
 mod elsewhere;
+#[cfg(target_os = "linux")]
+mod orphans;
+#[cfg(not(target_os = "linux"))]
+#[path = "no_orphans.rs"]
+mod orphans;
 #[cfg(unix)]
 mod unix;
 
@@ -9,6 +15,8 @@ mod unix;
 pub use elsewhere::{Signals, become_program, end_as, is_ignored, signal_of, terminate};
 #[cfg(unix)]
 pub use unix::{Signals, become_program, end_as, is_ignored, signal_of, terminate};
+
+pub use orphans::Orphans;
 
 /// The part for other systems, so that it is compiled and tried on Unix, too.
 #[cfg(all(test, unix))]
@@ -18,6 +26,11 @@ pub use unix::{Signals, become_program, end_as, is_ignored, signal_of, terminate
     reason = "a test cannot call what ends the process of the test"
 )]
 mod elsewhere_on_unix;
+
+/// The part for systems that are not Linux, so that it is compiled and tried on Linux, too.
+#[cfg(all(test, target_os = "linux"))]
+#[path = "no_orphans.rs"]
+mod no_orphans_on_linux;
 
 #[cfg(all(test, unix))]
 mod tests {
@@ -33,7 +46,7 @@ mod tests {
         assert_eq!(elsewhere::signal_of(status(9)), None);
         assert!(!elsewhere::is_ignored(2));
         let signals = elsewhere::Signals::catch().expect("nothing is done");
-        assert!(!signals.take_terminate());
+        assert!(!signals.take_terminate() && !signals.is_left_alone());
     }
 
     #[test]
@@ -42,6 +55,12 @@ mod tests {
         elsewhere::terminate(&mut child);
         assert!(!child.wait().expect("it is a child").success());
         elsewhere::terminate(&mut child);
+    }
+
+    #[test]
+    #[cfg(target_os = "linux")]
+    fn on_other_systems_no_process_is_known_that_was_left_behind() {
+        assert!(super::no_orphans_on_linux::Orphans::adopt().end(1, true));
     }
 
     #[test]

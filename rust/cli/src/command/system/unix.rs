@@ -5,7 +5,8 @@ use signal_hook::flag::register;
 use signal_hook::low_level::{emulate_default_handler, raise};
 use std::io;
 use std::mem::MaybeUninit;
-use std::os::unix::process::{CommandExt, ExitStatusExt};
+use std::os::fd::AsRawFd;
+use std::os::unix::process::{CommandExt, ExitStatusExt, parent_id};
 use std::process::{Child, Command, ExitStatus};
 use std::ptr;
 use std::sync::Arc;
@@ -14,10 +15,15 @@ use std::sync::atomic::{AtomicBool, Ordering};
 /// What a shell adds to the number of a signal that ended a process.
 const BY_SIGNAL: i32 = 128;
 
-/// The signals that ask this process to end. From [`Signals::catch`] on they do not end it.
+/// What asks this process to end: signals, and that nobody needs it any more. From [`Signals::catch`] on the signals do
+/// not end it.
 #[derive(Debug)]
 pub struct Signals {
+    is_interrupted: Arc<AtomicBool>,
     is_terminated: Arc<AtomicBool>,
+
+    /// The process that started this one.
+    parent: u32,
 }
 
 impl Signals {
@@ -26,22 +32,49 @@ impl Signals {
     ///
     /// Fails if the system refuses a handler.
     pub fn catch() -> io::Result<Signals> {
-        let is_terminated = Arc::new(AtomicBool::new(false));
+        let signals = Signals {
+            is_interrupted: Arc::default(),
+            is_terminated: Arc::default(),
+            parent: parent_id(),
+        };
         for (signal, has_come) in [
-            (SIGINT, Arc::default()),
-            (SIGTERM, Arc::clone(&is_terminated)),
+            (SIGINT, &signals.is_interrupted),
+            (SIGTERM, &signals.is_terminated),
         ] {
             if !is_ignored(signal) {
-                register(signal, has_come)?;
+                register(signal, Arc::clone(has_come))?;
             }
         }
-        Ok(Signals { is_terminated })
+        Ok(signals)
     }
 
     /// Returns true, once for each time, if SIGTERM has come.
     pub fn take_terminate(&self) -> bool {
         self.is_terminated.swap(false, Ordering::SeqCst)
     }
+
+    /// Returns true if the process that started this one has ended, or if nobody reads standard output any more. After
+    /// Ctrl-C it returns false: the terminal has asked all processes to end.
+    pub fn is_left_alone(&self) -> bool {
+        !self.is_interrupted.load(Ordering::SeqCst)
+            && (parent_id() != self.parent || has_no_reader(io::stdout()))
+    }
+}
+
+/// Returns true for a pipe that nobody reads.
+#[allow(
+    unsafe_code,
+    reason = "no safe call asks a pipe for its reader and writes nothing"
+)]
+fn has_no_reader(pipe: impl AsRawFd) -> bool {
+    let mut asked = libc::pollfd {
+        fd: pipe.as_raw_fd(),
+        events: 0,
+        revents: 0,
+    };
+    // SAFETY: the call writes to this one structure, and does not wait.
+    let count = unsafe { libc::poll(&raw mut asked, 1, 0) };
+    count == 1 && asked.revents & libc::POLLERR != 0
 }
 
 /// Returns true if this process ignores a signal.

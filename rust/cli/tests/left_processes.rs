@@ -1,0 +1,118 @@
+//! What SIGTERM to `test-report` alone leaves behind, with a real cargo: nothing.
+#![cfg(target_os = "linux")]
+
+mod common;
+
+use common::{Folder, command, soon};
+use std::fs;
+use std::path::Path;
+use std::process::{Command, Output};
+use std::thread;
+use std::time::{Duration, Instant};
+
+/// A package with a test and a documentation test that write a file and sleep. The variable names the file.
+const PACKAGE: [(&str, &str); 2] = [
+    (
+        "Cargo.toml",
+        "[package]\nname = \"money\"\nversion = \"0.1.0\"\nedition = \"2024\"\n\n[workspace]\n",
+    ),
+    (
+        "src/lib.rs",
+        r#"//! ```
+//! money::sleep();
+//! ```
+
+/// Says that it runs, and sleeps for long.
+pub fn sleep() {
+    std::fs::write(std::env::var("SLEEPS").unwrap(), "").unwrap();
+    std::thread::sleep(std::time::Duration::from_secs(300));
+}
+
+#[test]
+fn sleeps() {
+    sleep();
+}
+"#,
+    ),
+];
+
+/// The variable that names the file. Only the processes of a run have it.
+const VARIABLE: &str = "SLEEPS";
+
+/// Returns the arguments of the processes that run and have the variable with this value.
+fn processes_with(value: &str) -> Vec<String> {
+    let variable = format!("{VARIABLE}={value}");
+    let processes = fs::read_dir("/proc").expect("it is there").flatten();
+    let has_variable = |process: &Path| {
+        let variables = fs::read(process.join("environ")).unwrap_or_default();
+        let mut variables = variables.split(|byte| *byte == 0);
+        variables.any(|it| it == variable.as_bytes())
+    };
+    processes
+        .map(|process| process.path())
+        .filter(|process| has_variable(process))
+        .map(|process| fs::read_to_string(process.join("cmdline")).unwrap_or_default())
+        .collect()
+}
+
+/// Runs the tests of the package with an argument, and sends a signal to `test-report` when one sleeps. Returns what
+/// `test-report` wrote, how long it took to end after the signal, and the processes that run one second later.
+fn signalled(folder: &Folder, argument: &str, signal: &str) -> (Output, Duration, Vec<String>) {
+    let file = folder.file(&format!("sleeps{argument}{signal}"));
+    let arguments = ["--", env!("CARGO"), "test", argument];
+    let mut command = command("test-report", &arguments);
+    for name in ["CARGO_TARGET_DIR", "RUSTC_BOOTSTRAP", "RUSTDOC"] {
+        command.env_remove(name);
+    }
+    command
+        .env("CARGO_NET_OFFLINE", "true")
+        .env(VARIABLE, &file)
+        .current_dir(&folder.0);
+    let child = command.spawn().expect("the program starts");
+    let path = file.clone();
+    soon("a test that sleeps", move || {
+        while !Path::new(&path).exists() {
+            thread::sleep(Duration::from_millis(20));
+        }
+    });
+    assert!(processes_with(&file).len() >= 4, "they have the variable");
+    let start = Instant::now();
+    let script = format!("kill -s {signal} {}", child.id());
+    let status = Command::new("sh").args(["-c", &script]).status();
+    assert!(status.expect("a shell runs").success());
+    let output = soon("the end of the program", move || child.wait_with_output());
+    let time = start.elapsed();
+    thread::sleep(Duration::from_secs(1));
+    let left = processes_with(&file);
+    (output.expect("the program ends"), time, left)
+}
+
+#[test]
+fn sigterm_to_the_report_alone_ends_all_processes() {
+    let folder = Folder::new("left");
+    for (name, text) in PACKAGE {
+        let path = folder.0.join(name);
+        fs::create_dir_all(path.parent().expect("a file is in a folder")).expect("it is new");
+        fs::write(path, text).expect("the folder is there");
+    }
+    for (argument, stopped) in [
+        ("--lib", "     STOPPED money sleeps\n"),
+        (
+            "--doc",
+            "     STOPPED money (doc tests) src/lib.rs - (line 1)\n",
+        ),
+    ] {
+        let (output, time, left) = signalled(&folder, argument, "TERM");
+        let text = String::from_utf8_lossy(&output.stdout);
+        assert!(text.contains(stopped), "{text}");
+        assert!(text.contains("the run was cancelled (Signal)\n"), "{text}");
+        assert!(text.ends_with("\noutcome cancelled\n"), "{text}");
+        assert_eq!(output.status.code(), Some(1));
+        assert!(time < Duration::from_secs(10), "{time:?}");
+        assert_eq!(left, [""; 0], "{argument}");
+        // A report that is killed writes nothing.
+        let (output, _, left) = signalled(&folder, argument, "KILL");
+        assert_eq!(output.status.code(), None);
+        assert_eq!(left, [""; 0], "{argument}");
+    }
+}
