@@ -554,6 +554,42 @@ fn a_file_that_cannot_be_written_ends_the_program_before_anything_runs() {
 }
 
 #[test]
+fn a_temporary_folder_that_cannot_be_written_ends_the_program_before_anything_is_built() {
+    let folder = Folder::new("temporary");
+    write_package(&folder);
+    let file = folder.file("Cargo.toml");
+    // The last one is there, but no byte can be written, as on a full device.
+    for (temporary, script) in [
+        (folder.file("none"), r#"exec "$@""#),
+        (file, r#"exec "$@""#),
+        (
+            folder.file("src"),
+            r#"trap '' XFSZ; ulimit -f 0; exec "$@""#,
+        ),
+    ] {
+        let mut command = Command::new("sh");
+        command
+            .args(["-c", script, "sh", common::path_of("test-report"), "--"])
+            .args([env!("CARGO"), "test"])
+            .env("TMPDIR", &temporary)
+            .env_remove("CARGO_TARGET_DIR")
+            .env_remove("RUSTC_BOOTSTRAP")
+            .env_remove("RUSTDOC")
+            .current_dir(&folder.0);
+        let output = command.output().expect("the program runs");
+        let message = String::from_utf8_lossy(&output.stderr);
+        let wanted = format!(
+            "test-report: the temporary folder {temporary} cannot be written; set TMPDIR to another one: "
+        );
+        assert!(message.starts_with(&wanted), "{message}");
+        assert_eq!(message.lines().count(), 1, "{message}");
+        assert_eq!(String::from_utf8_lossy(&output.stdout), "");
+        assert_eq!(output.status.code(), Some(3));
+        assert!(!folder.0.join("target").exists(), "nothing is built");
+    }
+}
+
+#[test]
 fn a_folder_is_made_for_the_file_and_its_old_permissions_stay() {
     let folder = Folder::new("made");
     let path = folder.file("a/b/run.jsonl");

@@ -1,15 +1,19 @@
 //! The test programs of a run, which this program tells its stand-ins by a file.
 
 use super::run_line::StartedProgram;
+use crate::program::{DEVICE_FAILED, Failure};
 use serde::{Deserialize, Serialize};
 use std::env;
 use std::fs;
-use std::io::{self, Write};
+use std::io::{self, Seek, Write};
 use std::path::Path;
 use tempfile::{Builder, NamedTempFile};
 
 /// The variable that names the file of the test programs. Only stand-ins and cargo see it.
 pub const PROGRAMS: &str = "TEST_REPORT_PROGRAMS";
+
+/// How many bytes are written to the file before anything runs.
+const TRIED: usize = 4096;
 
 /// A test program, as cargo's messages about its build and its package's manifest say.
 #[derive(Clone, Debug, PartialEq, Eq, Serialize, Deserialize)]
@@ -48,13 +52,49 @@ impl TestProgram {
     }
 }
 
-/// Writes test programs to a temporary file, which is removed when the result is dropped.
-///
-/// Fails if the file cannot be written.
-pub fn write_programs(programs: &[TestProgram]) -> io::Result<NamedTempFile> {
-    let mut file = Builder::new().prefix("test-report.").tempfile()?;
-    file.write_all(&serde_json::to_vec(programs)?)?;
-    Ok(file)
+/// The file of the test programs, in the folder for temporary files. It is removed when this is dropped.
+#[derive(Debug)]
+pub struct ProgramsFile(NamedTempFile);
+
+impl ProgramsFile {
+    /// Creates the file, and makes sure that programs can be written to it.
+    ///
+    /// Fails if they cannot.
+    pub fn create() -> Result<ProgramsFile, Failure> {
+        let create = || {
+            let mut file = Builder::new().prefix("test-report.").tempfile()?;
+            // On a full device a file without bytes can be created. The programs are written over these spaces, and
+            // JSON may have some after it.
+            file.write_all(&[b' '; TRIED])?;
+            file.rewind()?;
+            Ok(ProgramsFile(file))
+        };
+        create().map_err(unwritten)
+    }
+
+    /// Writes the test programs, once.
+    ///
+    /// Fails if they cannot be written.
+    pub fn write(&mut self, programs: &[TestProgram]) -> Result<(), Failure> {
+        let bytes = serde_json::to_vec(programs).map_err(io::Error::from);
+        bytes
+            .and_then(|bytes| self.0.write_all(&bytes))
+            .map_err(unwritten)
+    }
+
+    /// Returns the path of the file.
+    pub fn path(&self) -> &Path {
+        self.0.path()
+    }
+}
+
+/// Returns the failure to write a file in the folder for temporary files.
+fn unwritten(error: io::Error) -> Failure {
+    let folder = env::temp_dir();
+    let folder = folder.display();
+    let message =
+        format!("the temporary folder {folder} cannot be written; set TMPDIR to another one");
+    Failure::new(DEVICE_FAILED, message).caused_by(Some(error))
 }
 
 /// Returns the test program at a path, if the file that the variable names has it.
@@ -84,8 +124,12 @@ mod tests {
             harness: false,
         };
         let programs = [program.clone(), program];
-        let file = write_programs(&programs).expect("the file can be written");
+        let mut file = ProgramsFile::create().expect("the file can be created");
+        assert!(read_programs(file.path()).is_err(), "it has no programs");
+        file.write(&programs).expect("the file can be written");
         let path = file.path().to_path_buf();
+        let size = fs::metadata(&path).expect("the file is there").len();
+        assert_eq!(size, 4096, "no more is written than was tried");
         assert_eq!(
             read_programs(&path).expect("the file can be read"),
             programs

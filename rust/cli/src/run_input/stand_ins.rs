@@ -6,16 +6,16 @@ use super::{RunReader, unread};
 use crate::command::cargo_messages::CargoMessages;
 use crate::command::end::process_end_of;
 use crate::command::prepared::Prepared;
-use crate::command::programs::{PROGRAMS, TestProgram, write_programs};
+use crate::command::programs::{PROGRAMS, ProgramsFile};
 use crate::command::run_line::{CancelledBy, CommandLine, RunLine, is_run_line};
 use crate::command::running::RunningCommand;
 use crate::lines::Lines;
 use crate::process_streams::{ProcessStreams, Stream};
-use crate::program::{DEVICE_FAILED, Failure};
+use crate::program::Failure;
 use crate::report::fault::Fault;
 use deodarsieve::CancelReason;
 use deodarsieve_run::{CommandEnd, Line};
-use std::io::{self, Write};
+use std::io::Write;
 use std::mem;
 
 impl<W: Write> RunReader<'_, '_, W> {
@@ -26,8 +26,9 @@ impl<W: Write> RunReader<'_, '_, W> {
         prepared: &Prepared,
         path: &str,
     ) -> Result<(), Failure> {
+        let mut file = ProgramsFile::create()?;
         self.take_command_line(CommandLine::Started)?;
-        let (end, error) = self.build_and_watch(prepared, path)?;
+        let (end, error) = self.build_and_watch(prepared, &mut file, path)?;
         self.note_cancel_in_run()?;
         self.take_command_line(CommandLine::Ended {
             end: process_end_of(&end),
@@ -40,10 +41,11 @@ impl<W: Write> RunReader<'_, '_, W> {
     fn build_and_watch(
         &mut self,
         prepared: &Prepared,
+        file: &mut ProgramsFile,
         path: &str,
     ) -> Result<(CommandEnd, Option<String>), Failure> {
         let Some(build) = &prepared.build else {
-            return self.watch(prepared, &[], path);
+            return self.watch(prepared, file, path);
         };
         let built = self.build(prepared, build)?;
         for line in built.messages.lines() {
@@ -54,7 +56,8 @@ impl<W: Write> RunReader<'_, '_, W> {
             return Ok((end, built.error()));
         }
         self.streams.others.repeated = built.repeated(prepared.is_quiet());
-        self.watch(prepared, &built.programs, path)
+        file.write(&built.programs)?;
+        self.watch(prepared, file, path)
     }
 
     /// Runs the command. The lines of the stand-ins go to the run, and those of standard error are passed on. Returns how
@@ -62,11 +65,10 @@ impl<W: Write> RunReader<'_, '_, W> {
     fn watch(
         &mut self,
         prepared: &Prepared,
-        programs: &[TestProgram],
+        file: &ProgramsFile,
         path: &str,
     ) -> Result<(CommandEnd, Option<String>), Failure> {
         let mut messages = CargoMessages::new(path);
-        let file = write_programs(programs).map_err(unnamed)?;
         let mut command = prepared.command();
         command.env(PROGRAMS, file.path());
         let (mut running, output, errors) = match RunningCommand::start_apart(&mut command) {
@@ -174,10 +176,4 @@ impl<W: Write> RunReader<'_, '_, W> {
             saved.flush();
         }
     }
-}
-
-/// Returns the failure to write the file of the test programs.
-fn unnamed(error: io::Error) -> Failure {
-    let message = "the file of the test programs cannot be written";
-    Failure::new(DEVICE_FAILED, message).caused_by(Some(error))
 }
