@@ -9,7 +9,7 @@ use crate::same_file::{FileId, is_link, named_by_links, present};
 use clap::ArgMatches;
 use std::fmt;
 use std::fs::{self, File, FileType, OpenOptions};
-use std::io::{self, BufWriter, ErrorKind, Write};
+use std::io::{self, ErrorKind, Write};
 use std::path::{Path, is_separator};
 
 /// The name of standard input among the files of the run.
@@ -277,7 +277,10 @@ impl OutputFile {
 /// A file to which the lines of a run are saved. Once a write has failed, nothing more is written.
 pub struct SavedRun {
     path: String,
-    file: BufWriter<File>,
+    file: File,
+
+    /// The lines that are not in the file yet.
+    waiting: Vec<u8>,
     error: Option<io::Error>,
 }
 
@@ -286,22 +289,26 @@ impl SavedRun {
     fn new(path: String, file: File) -> SavedRun {
         SavedRun {
             path,
-            file: BufWriter::new(file),
+            file,
+            waiting: Vec::new(),
             error: None,
         }
     }
 
-    /// Writes a line, and a line feed. It may come to the file with a later one.
+    /// Adds a line, and a line feed. They wait until all is written that does.
     pub fn write_line(&mut self, line: &[u8]) {
-        self.attempt(|file| {
-            file.write_all(line)?;
-            file.write_all(b"\n")
-        });
+        if self.error.is_none() {
+            self.waiting.extend_from_slice(line);
+            self.waiting.push(b'\n');
+        }
     }
 
-    /// Writes what has not come to the file yet.
+    /// Writes the lines that wait.
     pub fn flush(&mut self) {
-        self.attempt(Write::flush);
+        if self.error.is_none() {
+            self.error = self.file.write_all(&self.waiting).err();
+            self.waiting.clear();
+        }
     }
 
     /// Ends the file. Fails if one of the writes did.
@@ -310,13 +317,6 @@ impl SavedRun {
         match self.error {
             Some(error) => Err(Failure::unwritten(&self.path, error)),
             None => Ok(()),
-        }
-    }
-
-    /// Writes, unless a write has failed before.
-    fn attempt(&mut self, write: impl FnOnce(&mut BufWriter<File>) -> io::Result<()>) {
-        if self.error.is_none() {
-            self.error = write(&mut self.file).err();
         }
     }
 }

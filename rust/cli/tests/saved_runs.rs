@@ -495,6 +495,51 @@ fn a_command_is_over_two_seconds_after_nothing_came_from_a_process_that_was_left
     );
 }
 
+/// A package with a warning. Its build script runs again if any file in its folder is new, and counts its runs.
+const WATCHED: [(&str, &str); 3] = [
+    (
+        "money/Cargo.toml",
+        "[package]\nname = \"money\"\nversion = \"0.1.0\"\nedition = \"2024\"\n\n[workspace]\n",
+    ),
+    (
+        "money/build.rs",
+        "use std::io::Write;\nfn main() {\n    let mut file = std::fs::File::options().create(true).append(true).open(\"../runs\").unwrap();\n    \
+         writeln!(file, \"run\").unwrap();\n}\n",
+    ),
+    (
+        "money/src/lib.rs",
+        "macro_rules! unused {\n    ($($name:ident)*) => {\n        $(fn $name() {})*\n    };\n}\n\n\
+         unused!(a b c d e f g h i j k l m n o p q r s t u v w x y z);\n\n#[test]\nfn adds() {}\n",
+    ),
+];
+
+#[test]
+fn a_run_that_is_saved_in_the_folder_of_a_package_builds_it_once() {
+    let folder = Folder::new("watched");
+    for (name, text) in WATCHED {
+        let path = folder.0.join(name);
+        fs::create_dir_all(path.parent().expect("a file is in a folder")).expect("it is new");
+        fs::write(path, text).expect("the folder is there");
+    }
+    let arguments = ["--save", "run.jsonl", "--", env!("CARGO"), "test", "--lib"];
+    for count in 1..=2 {
+        let mut command = report(&folder, &arguments);
+        let output = command.current_dir(folder.file("money")).output();
+        let output = output.expect("the program runs");
+        assert_eq!(output.status.code(), Some(0));
+        let messages = String::from_utf8_lossy(&output.stderr);
+        assert_eq!(messages.matches("Compiling money").count(), 1, "{messages}");
+        let runs = fs::read_to_string(folder.file("runs")).expect("the script has run");
+        assert_eq!(runs.lines().count(), count);
+        let lines = lines_in(folder.file("money/run.jsonl"));
+        let warnings = lines
+            .iter()
+            .filter(|line| line.contains("compiler-message"));
+        let size: usize = warnings.map(String::len).sum();
+        assert!(size > 16_384, "{lines:?}");
+    }
+}
+
 #[test]
 fn only_the_run_of_a_command_with_stand_ins_is_saved() {
     let folder = Folder::new("refused");

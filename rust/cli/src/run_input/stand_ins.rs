@@ -48,10 +48,11 @@ impl<W: Write> RunReader<'_, '_, W> {
             return self.watch(prepared, file, path);
         };
         let built = self.build(prepared, build)?;
+        // The saved file gets these lines when the first program has started. If the file is in the folder of a package,
+        // the cargo that runs the programs may take a change of it for one of the package.
         for line in built.messages.lines() {
             self.take_own_line(line.as_bytes())?;
         }
-        self.save_now();
         if let Some(end) = self.end_before_run(&built.end) {
             return Ok((end, built.error()));
         }
