@@ -2,6 +2,7 @@
 //! is kept.
 
 use super::stand_in::AS_RUNNER;
+use crate::report::build::without_colors;
 use bstr::ByteSlice;
 use std::borrow::Cow;
 use std::mem;
@@ -60,8 +61,8 @@ impl CargoMessages {
         }
         let follows = !self.error.is_empty() && self.error.len() < LIMIT;
         if is_error || follows {
-            let text = without_escapes(line).to_str_lossy().into_owned();
-            self.error.push_str(text.trim_end());
+            self.error
+                .push_str(without_colors(&line.to_str_lossy()).trim_end());
             self.error.push('\n');
         }
     }
@@ -70,21 +71,7 @@ impl CargoMessages {
 /// Returns true for a line with which cargo reports an error. Before the word there may be a colour.
 fn begins_error(line: &[u8]) -> bool {
     let is_near = line.starts_with(b"e") || line.starts_with(b"\x1b");
-    is_near && without_escapes(line).starts_with_str(ERROR)
-}
-
-/// Returns a line without escapes such as colours: `ESC [`, parameters, and a last byte.
-fn without_escapes(line: &[u8]) -> Vec<u8> {
-    let mut kept = Vec::new();
-    let mut rest = line;
-    while let Some(at) = rest.find("\x1b[") {
-        kept.extend_from_slice(&rest[..at]);
-        let escape = &rest[at + 2..];
-        let end = escape.iter().position(|byte| (b'@'..=b'~').contains(byte));
-        rest = end.map_or(&[], |end| &escape[end + 1..]);
-    }
-    kept.extend_from_slice(rest);
-    kept
+    is_near && without_colors(&line.to_str_lossy()).starts_with(ERROR)
 }
 
 #[cfg(test)]
@@ -162,11 +149,5 @@ Caused by:
             "{}",
             error.len()
         );
-    }
-
-    #[test]
-    fn an_escape_that_does_not_end_is_left_out() {
-        assert_eq!(without_escapes(b"a\x1b[1mb\x1b[0").as_bstr(), "ab");
-        assert_eq!(without_escapes(b"a\x1bb").as_bstr(), "a\x1bb");
     }
 }
