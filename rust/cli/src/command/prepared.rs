@@ -164,32 +164,52 @@ fn acceptance_for(cargo: &CargoCommand) -> Acceptance {
 
 /// Returns a `cargo test` or `cargo bench` whose harness writes JSON lines.
 fn with_harness(cargo: &CargoCommand, acceptance: &Acceptance) -> Prepared {
-    let mut settings: Vec<OsString> = Vec::new();
-    let mut prepared = Prepared {
+    let front = words_before_own(cargo, acceptance);
+    let prepared = Prepared {
+        build: build_of(cargo, &front),
+        words: words_that_run(cargo, acceptance, front),
         advice: Advice::Nobody,
         ..unchanged(&[])
     };
     match acceptance {
-        Acceptance::StandIn(path) => {
-            for setting in settings_for(path) {
-                settings.extend(["--config".into(), setting.into()]);
-            }
-            prepared.variables = vec![(AS_RUSTDOC, "1".into())];
-            prepared.stand_in = Some(path.clone());
-        }
-        Acceptance::WholeCargo => {
-            prepared.variables = vec![(BOOTSTRAP, ACCEPT_OPTIONS.into())];
-            prepared.message = Some(COST);
-        }
-        Acceptance::Given => {}
+        Acceptance::StandIn(path) => Prepared {
+            variables: vec![(AS_RUSTDOC, "1".into())],
+            stand_in: Some(path.clone()),
+            ..prepared
+        },
+        Acceptance::WholeCargo => Prepared {
+            variables: vec![(BOOTSTRAP, ACCEPT_OPTIONS.into())],
+            message: Some(COST),
+            ..prepared
+        },
+        Acceptance::Given => prepared,
     }
+}
+
+/// Returns the program, the arguments up to the subcommand, and the settings for the stand-in if there is one.
+fn words_before_own(cargo: &CargoCommand, acceptance: &Acceptance) -> Vec<OsString> {
+    let settings: Vec<OsString> = match acceptance {
+        Acceptance::StandIn(path) => settings_for(path)
+            .into_iter()
+            .flat_map(|setting| ["--config".into(), setting.into()])
+            .collect(),
+        Acceptance::WholeCargo | Acceptance::Given => Vec::new(),
+    };
     // Cargo takes no settings before the subcommand if there are some after it.
-    let mut words = if values_of(cargo.own, "--config").is_empty() {
+    if values_of(cargo.own, "--config").is_empty() {
         [cargo.before, &settings, cargo.subcommand].concat()
     } else {
         [cargo.before, cargo.subcommand, &settings].concat()
-    };
-    prepared.build = build_of(cargo, &words);
+    }
+}
+
+/// Returns the words of a cargo that runs the tests and begins with the words `front`.
+fn words_that_run(
+    cargo: &CargoCommand,
+    acceptance: &Acceptance,
+    front: Vec<OsString>,
+) -> Vec<OsString> {
+    let mut words = front;
     if !cargo.own.iter().any(|word| word == "--no-fail-fast") {
         words.push("--no-fail-fast".into());
     }
@@ -204,18 +224,18 @@ fn with_harness(cargo: &CargoCommand, acceptance: &Acceptance) -> Prepared {
         words.push("--".into());
         words.extend(harness);
     }
-    Prepared { words, ..prepared }
+    words
 }
 
-/// Returns what builds the tests of a command that begins with the words `before`. Returns `None` if cargo would refuse
+/// Returns what builds the tests of a command that begins with the words `front`. Returns `None` if cargo would refuse
 /// it: cargo cannot build documentation tests alone, and has only one message format.
-fn build_of(cargo: &CargoCommand, before: &[OsString]) -> Option<Build> {
+fn build_of(cargo: &CargoCommand, front: &[OsString]) -> Option<Build> {
     let refuses = cargo.own.iter().any(|word| word == "--doc")
         || !values_of(cargo.own, "--message-format").is_empty();
     if refuses {
         return None;
     }
-    let mut words = before.to_vec();
+    let mut words = front.to_vec();
     words.extend(BUILDS.map(OsString::from));
     words.push(message_format(cargo).into());
     words.extend_from_slice(cargo.own);

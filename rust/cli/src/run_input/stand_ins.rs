@@ -61,15 +61,14 @@ impl<W: Write> RunReader<'_, '_, W> {
         self.watch(prepared, file, path)
     }
 
-    /// Runs the command. The lines of the stand-ins go to the run, and those of standard error are passed on. Returns how
-    /// it ended, and the error that it ended with.
+    /// Runs the command, which starts the programs that the file names. Returns how it ended, and the error that it ended
+    /// with. `path` is that of the stand-ins.
     fn watch(
         &mut self,
         prepared: &Prepared,
         file: &ProgramsFile,
         path: &str,
     ) -> Result<(CommandEnd, Option<String>), Failure> {
-        let mut messages = CargoMessages::new(path);
         let mut command = prepared.command();
         command.env(PROGRAMS, file.path());
         let (mut running, output, errors) = match RunningCommand::start_apart(&mut command) {
@@ -80,11 +79,25 @@ impl<W: Write> RunReader<'_, '_, W> {
             (Stream::Output, Box::new(output)),
             (Stream::Error, Box::new(errors)),
         ]);
-        let mut streams = streams.map_err(unread)?;
+        let mut messages = CargoMessages::new(path);
+        self.read_streams(streams.map_err(unread)?, &mut running, &mut messages)?;
+        let end = self.wait_for(&mut running)?;
+        let error = messages.take_error();
+        let failed = !matches!(end, CommandEnd::Status { code: 0 });
+        Ok((end, error.filter(|_| failed)))
+    }
+
+    /// Reads what the command writes. The lines of the stand-ins go to the run, and those of standard error are passed on.
+    fn read_streams(
+        &mut self,
+        mut streams: ProcessStreams,
+        running: &mut RunningCommand,
+        messages: &mut CargoMessages,
+    ) -> Result<(), Failure> {
         let mut error_lines = Lines::default();
-        self.read_output(&mut streams, &mut running, |reader, stream, piece| {
+        self.read_output(&mut streams, running, |reader, stream, piece| {
             match stream {
-                Stream::Output => reader.take_told(piece)?,
+                Stream::Output => reader.take_run_piece(piece)?,
                 Stream::Error => error_lines.take(piece, |line| {
                     reader.pass_message_on(&messages.take(line));
                     Ok::<_, Failure>(())
@@ -98,14 +111,11 @@ impl<W: Write> RunReader<'_, '_, W> {
         if let Some(line) = error_lines.end() {
             self.pass_message_on(&messages.take(&line));
         }
-        let end = self.wait_for(&mut running)?;
-        let error = messages.take_error();
-        let failed = !matches!(end, CommandEnd::Status { code: 0 });
-        Ok((end, error.filter(|_| failed)))
+        Ok(())
     }
 
     /// Takes what stand-ins wrote next.
-    fn take_told(&mut self, piece: &[u8]) -> Result<(), Failure> {
+    fn take_run_piece(&mut self, piece: &[u8]) -> Result<(), Failure> {
         self.note_cancel_in_run()?;
         self.streams.others.repeated.note_program();
         let mut lines = mem::take(&mut self.lines);
