@@ -136,8 +136,13 @@ pub fn cargo_test_report() -> Command {
 
 /// Adds the options of a report.
 fn with_options(command: Command) -> Command {
+    let command = with_files(command.version(env!("CARGO_PKG_VERSION")));
+    with_amounts(with_display(with_result(command)))
+}
+
+/// Adds the options that name the form of the report and files.
+fn with_files(command: Command) -> Command {
     command
-        .version(env!("CARGO_PKG_VERSION"))
         .next_help_heading(FORMS_HEADING)
         .arg(choice("format", "FORM", "text", FORMS).help("Write the report in this form"))
         .arg(file("junit").help("Also write JUnit's XML to FILE. An old FILE is removed at the start"))
@@ -145,11 +150,21 @@ fn with_options(command: Command) -> Command {
         .arg(file("markdown").help("Also append Markdown to FILE, such as $GITHUB_STEP_SUMMARY"))
         .arg(file("json").help("Also write the report as JSON to FILE. An old FILE is removed at the start"))
         .arg(file("save").help("Also write the lines of the run to FILE as they come, if COMMAND is a `cargo test` or `cargo bench`"))
+}
+
+/// Adds the options that change the result.
+fn with_result(command: Command) -> Command {
+    command
         .next_help_heading(STATUS_HEADING)
         .arg(
             choice("no-tests", "ACTION", "fail", ["fail", "pass"])
                 .help("Whether the exit status is 1 (`fail`) or 0 (`pass`) if no test ran and nothing else is wrong"),
         )
+}
+
+/// Adds the options that say what is shown, and when.
+fn with_display(command: Command) -> Command {
+    command
         .next_help_heading(DISPLAY_HEADING)
         .arg(
             choice("color", "WHEN", "auto", ["auto", "always", "never"])
@@ -183,6 +198,11 @@ fn with_options(command: Command) -> Command {
             choice("annotations", "WHEN", "auto", ["auto", "github", "never"])
                 .help("Write annotations for GitHub between the lines of the form `text`; `auto` does so if GITHUB_ACTIONS is `true`"),
         )
+}
+
+/// Adds the options that say how much is shown.
+fn with_amounts(command: Command) -> Command {
+    command
         .arg(
             Arg::new("slow")
                 .long("slow")

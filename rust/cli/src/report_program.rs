@@ -198,9 +198,7 @@ fn catch_first_interrupt() -> Result<Interrupt, Failure> {
     })
 }
 
-/// Writes the report to standard output, and then the files. Returns the exit status, which is that of a failed device
-/// if a line that is no event could not be passed on. If the reader of standard output has gone, no message is written to
-/// standard error.
+/// Writes the report to standard output, and then the files. Returns the exit status.
 fn write_report(
     matches: &ArgMatches,
     input: Input,
@@ -225,6 +223,17 @@ fn write_report(
     );
     let ended = reader.report(input);
     line.borrow_mut().hide();
+    write_files(ended, streams, interrupt, output_files)
+}
+
+/// Writes the files of a report that has ended. Returns the exit status, which is that of a failed device if a line that
+/// is no event could not be passed on. If the reader of standard output has gone, no message is written to standard error.
+fn write_files(
+    ended: Result<Ended, Failure>,
+    streams: Streams<KeepError<StandardOutput>>,
+    interrupt: &Interrupt,
+    output_files: &OutputFiles,
+) -> Result<ExitCode, Failure> {
     let Streams {
         output,
         others,
