@@ -141,7 +141,7 @@ fn nothing_is_compiled_again_and_documentation_tests_are_run() {
 }
 
 #[test]
-fn a_runner_of_the_user_is_used_and_its_cost_is_told() {
+fn a_runner_of_the_user_is_used_and_a_message_says_its_cost() {
     let folder = Folder::new("runner");
     write_package(&folder);
     let runner = "target.'cfg(all())'.runner=['env', 'RUNNER=own']";
@@ -157,9 +157,9 @@ fn a_runner_of_the_user_is_used_and_its_cost_is_told() {
         runner,
     ];
     let output = report(&folder, &arguments);
-    let warning = "test-report: RUSTC_BOOTSTRAP is set for the whole of cargo, because your settings name a runner or a \
+    let message = "test-report: RUSTC_BOOTSTRAP is set for the whole of cargo, because your settings name a runner or a \
                 rustdoc: packages whose build script watches this variable are compiled anew\n";
-    assert_failed(&output, NAMES, warning);
+    assert_failed(&output, NAMES, message);
 }
 
 #[test]

@@ -1,4 +1,4 @@
-//! What takes the place of a test program: it starts the program, stays, writes lines about it, and ends as the program did.
+//! What takes the place of a test program: it starts the program, stays, writes what it sees, and ends as the program did.
 #![cfg(unix)]
 
 mod common;
@@ -148,7 +148,7 @@ fn a_program_that_is_not_there_is_a_failure_without_a_line() {
 }
 
 #[test]
-fn the_line_of_the_start_says_that_a_harness_is_asked_for_a_list() {
+fn a_harness_that_is_asked_for_a_list_has_that_in_its_line() {
     let folder = Folder::new("list");
     let path = folder.script("program", "#!/bin/sh\n");
     for (arguments, wanted) in [
@@ -366,7 +366,7 @@ fn it_is_over_ten_seconds_after_the_end_of_its_program_in_any_case() {
     );
     let end = last_line(&output);
     assert_eq!(end["status"], json!(7));
-    // What came until then is passed on.
+    // What came until then is in the lines.
     assert!(lines_of(&output).len() > 50);
     let stderr = end["stderr"].as_str().expect("it is text");
     assert!(stderr.lines().count() > 50, "{stderr}");
@@ -520,13 +520,13 @@ fn a_program_that_nobody_needs_is_killed_with_what_it_leaves_behind() {
     for file in ["one", "two"] {
         wait_for_file(format!("{path}.{file}"));
     }
-    // The stand-in, the program, and two that it started.
-    assert_eq!(processes_with(&path), 4);
+    // The stand-in, the program, and two that it started. A copy of one of them may be about to become `sleep`.
+    assert!(processes_with(&path) >= 4);
     let start = Instant::now();
     drop(stdout);
     std::thread::sleep(Duration::from_secs(1));
     // Only an orphan is asked to end, and the program still runs.
-    assert_eq!(processes_with(&path), 4);
+    assert!(processes_with(&path) >= 4);
     assert_eq!(end_of(child).signal(), Some(9));
     let time = start.elapsed();
     assert!(

@@ -346,7 +346,7 @@ mod tests {
     }
 
     #[test]
-    fn cargo_is_told_the_program_by_settings_before_the_subcommand() {
+    fn settings_before_the_subcommand_name_the_stand_in() {
         let given = words("cargo --locked test");
         let cargo = CargoCommand::of(&given).expect("the command runs tests");
         let prepared = with_harness(&cargo, &Acceptance::StandIn("/a b/\"c\\".into()));
@@ -463,7 +463,7 @@ mod tests {
     }
 
     #[test]
-    fn the_user_is_told_what_the_variable_costs() {
+    fn a_message_says_what_the_variable_costs() {
         let given = words("cargo test");
         let cargo = CargoCommand::of(&given).expect("the command runs tests");
         let prepared = with_harness(&cargo, &Acceptance::WholeCargo);

@@ -1,4 +1,4 @@
-//! The test programs of a run, which this program tells its stand-ins by a file.
+//! The test programs of a run. A file names them for the stand-ins.
 
 use super::run_line::StartedProgram;
 use crate::program::{DEVICE_FAILED, Failure};

@@ -132,7 +132,7 @@ fn command_of(program: &OsStr) -> Command {
     command
 }
 
-/// Runs a program, tells what it sees of it, and ends as it did.
+/// Runs a program, writes what it sees of it, and ends as it did.
 fn watch_to_end(mut command: Command, program: StartedProgram) -> Result<ExitCode, Failure> {
     let (output, errors) = (StandardOutput::lock(), StandardError::get());
     match watch(&mut command, program, output, errors) {

@@ -1,4 +1,4 @@
-//! Starts a test program, stays, and tells what it sees of it, in lines of a run.
+//! Starts a test program, stays, and writes what it sees of it, in lines of a run.
 
 use super::end::process_end;
 use super::last_output::LastOutput;
@@ -23,7 +23,7 @@ const PATIENCE: Duration = Duration::from_secs(10);
 /// The most bytes of short lines that are written at once.
 const BUFFER: usize = 65_536;
 
-/// Runs a program, and tells `output` what it sees of it: that it starts, each line of its standard output, and how it
+/// Runs a program, and writes to `output` what it sees of it: that it starts, each line of its standard output, and how it
 /// ended. What the program writes to standard error goes to `errors` at once. Returns how the program ended.
 ///
 /// If nobody reads `output` any more, the program has no reader either. If nobody needs this process any more, the program
@@ -43,14 +43,14 @@ pub fn watch(
         (Stream::Output, Box::new(stdout)),
         (Stream::Error, Box::new(stderr)),
     ])?;
-    let mut teller = Teller::new(output, errors);
-    let is_told = teller
-        .tell(&RunLine::Program(ProgramLine::Started(program)))
-        .and_then(|()| pass_on(streams, &mut running, &mut teller));
+    let mut writer = RunWriter::new(output, errors);
+    let written = writer
+        .write_own_line(&RunLine::Program(ProgramLine::Started(program)))
+        .and_then(|()| pass_on(streams, &mut running, &mut writer));
     let status = wait_for(&mut running)?;
-    if is_told.is_ok() {
+    if written.is_ok() {
         // If nobody reads it, it is not needed.
-        let _ = teller.end(status);
+        let _ = writer.end(status);
     }
     running.wait_for_orphans();
     Ok(status)
@@ -62,12 +62,12 @@ pub fn watch(
 fn pass_on(
     mut streams: ProcessStreams,
     running: &mut Watched,
-    teller: &mut Teller<impl Write, impl Write>,
+    writer: &mut RunWriter<impl Write, impl Write>,
 ) -> io::Result<()> {
     while !streams.are_over(Instant::now()) {
         // A stream that cannot be read is at its end.
         if let Ok(Some((stream, piece))) = streams.next_piece(LOOK) {
-            teller.take(stream, &piece)?;
+            writer.take(stream, &piece)?;
         }
         running.pass_end_on();
         if running.status()?.is_some() {
@@ -166,7 +166,7 @@ impl Watched {
 }
 
 /// Writes what a stand-in sees of its program.
-struct Teller<O: Write, E> {
+struct RunWriter<O: Write, E> {
     output: BufWriter<O>,
     errors: E,
 
@@ -177,10 +177,10 @@ struct Teller<O: Write, E> {
     last: LastOutput,
 }
 
-impl<O: Write, E: Write> Teller<O, E> {
-    /// Returns a teller that has told nothing.
-    fn new(output: O, errors: E) -> Teller<O, E> {
-        Teller {
+impl<O: Write, E: Write> RunWriter<O, E> {
+    /// Returns a writer that has written nothing.
+    fn new(output: O, errors: E) -> RunWriter<O, E> {
+        RunWriter {
             output: BufWriter::with_capacity(BUFFER, output),
             errors,
             lines: Lines::default(),
@@ -189,7 +189,7 @@ impl<O: Write, E: Write> Teller<O, E> {
     }
 
     /// Writes a line of its own.
-    fn tell(&mut self, line: &RunLine) -> io::Result<()> {
+    fn write_own_line(&mut self, line: &RunLine) -> io::Result<()> {
         let mut text = line.text()?;
         text.push(b'\n');
         self.output.write_all(&text)?;
@@ -224,7 +224,7 @@ impl<O: Write, E: Write> Teller<O, E> {
             pass_line_on(&line, &mut self.output, &mut self.errors)?;
         }
         let stderr = mem::take(&mut self.last).into_text();
-        self.tell(&RunLine::Program(ProgramLine::Ended {
+        self.write_own_line(&RunLine::Program(ProgramLine::Ended {
             end: process_end(status),
             stderr: stderr.into(),
         }))
@@ -250,9 +250,9 @@ mod tests {
     use super::*;
     use std::os::unix::process::ExitStatusExt;
 
-    /// Returns what is told of a script of the shell: the output without the first and the last line, the last line,
+    /// Returns what is written of a script of the shell: the output without the first and the last line, the last line,
     /// and standard error.
-    fn told(script: &str) -> (String, String, String) {
+    fn written_of(script: &str) -> (String, String, String) {
         let (mut output, mut errors) = (Vec::new(), Vec::new());
         let mut command = Command::new("sh");
         command.args(["-c", script]);
@@ -271,9 +271,9 @@ mod tests {
     }
 
     #[test]
-    fn each_line_is_passed_on_and_the_end_is_told() {
+    fn each_line_is_passed_on_and_the_end_is_a_line() {
         let (output, end, errors) =
-            told("echo a; printf 'b\\r\\n\\n'; printf c; printf 'x\\ny' >&2; exit 101");
+            written_of("echo a; printf 'b\\r\\n\\n'; printf c; printf 'x\\ny' >&2; exit 101");
         assert_eq!(output, "a\nb\r\n\nc\n");
         assert_eq!(
             end,
@@ -283,8 +283,8 @@ mod tests {
     }
 
     #[test]
-    fn an_end_by_a_signal_is_told_as_one() {
-        let (_, end, _) = told("kill -9 $$");
+    fn an_end_by_a_signal_has_its_number() {
+        let (_, end, _) = written_of("kill -9 $$");
         assert_eq!(
             end,
             r#"{"type":"program","event":"ended","signal":9,"stderr":""}"#
@@ -295,7 +295,7 @@ mod tests {
     fn no_program_tells_how_it_ended() {
         let script = r#"echo '{"type":"program","event":"ended","status":0}'; echo kept
             printf 'text {"type":"command","event":"ended","status":0}'"#;
-        let (output, end, errors) = told(script);
+        let (output, end, errors) = written_of(script);
         assert_eq!(output, "kept\n");
         assert!(end.contains(r#""stderr":"""#), "{end}");
         let wanted = "{\"type\":\"program\",\"event\":\"ended\",\"status\":0}\n\
@@ -305,7 +305,7 @@ mod tests {
 
     #[test]
     fn a_program_that_closes_its_output_is_waited_for() {
-        let (_, end, _) = told("exec >&- 2>&-; sleep 0.3; exit 7");
+        let (_, end, _) = written_of("exec >&- 2>&-; sleep 0.3; exit 7");
         assert_eq!(
             end,
             r#"{"type":"program","event":"ended","status":7,"stderr":""}"#
@@ -315,7 +315,7 @@ mod tests {
     #[test]
     fn a_process_that_is_left_behind_is_not_waited_for() {
         let start = Instant::now();
-        let (output, end, _) = told("sleep 30 & echo a; exit 0");
+        let (output, end, _) = written_of("sleep 30 & echo a; exit 0");
         assert_eq!(output, "a\n");
         assert!(end.contains(r#""status":0"#), "{end}");
         let time = start.elapsed();
