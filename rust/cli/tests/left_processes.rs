@@ -10,6 +10,15 @@ use std::process::{Command, Output};
 use std::thread;
 use std::time::{Duration, Instant};
 
+/// A build script that writes a file and sleeps.
+const SCRIPT: &str = r#"
+fn main() {
+    println!("cargo::rerun-if-changed=build.rs");
+    std::fs::write(std::env::var("SLEEPS").unwrap(), "").unwrap();
+    std::thread::sleep(std::time::Duration::from_secs(300));
+}
+"#;
+
 /// A package with a test and a documentation test that write a file and sleep. The variable names the file.
 const PACKAGE: [(&str, &str); 2] = [
     (
@@ -75,7 +84,7 @@ fn signalled(folder: &Folder, argument: &str, signal: &str) -> (Output, Duration
             thread::sleep(Duration::from_millis(20));
         }
     });
-    assert!(processes_with(&file).len() >= 4, "they have the variable");
+    assert!(processes_with(&file).len() >= 3, "they have the variable");
     let start = Instant::now();
     let script = format!("kill -s {signal} {}", child.id());
     let status = Command::new("sh").args(["-c", &script]).status();
@@ -87,14 +96,20 @@ fn signalled(folder: &Folder, argument: &str, signal: &str) -> (Output, Duration
     (output.expect("the program ends"), time, left)
 }
 
-#[test]
-fn sigterm_to_the_report_alone_ends_all_processes() {
-    let folder = Folder::new("left");
+/// Writes the package to a folder for a test.
+fn folder_with_package(test: &str) -> Folder {
+    let folder = Folder::new(test);
     for (name, text) in PACKAGE {
         let path = folder.0.join(name);
         fs::create_dir_all(path.parent().expect("a file is in a folder")).expect("it is new");
         fs::write(path, text).expect("the folder is there");
     }
+    folder
+}
+
+#[test]
+fn sigterm_to_the_report_alone_ends_all_processes() {
+    let folder = folder_with_package("left");
     for (argument, stopped) in [
         ("--lib", "     STOPPED money sleeps\n"),
         (
@@ -115,4 +130,47 @@ fn sigterm_to_the_report_alone_ends_all_processes() {
         assert_eq!(output.status.code(), None);
         assert_eq!(left, [""; 0], "{argument}");
     }
+}
+
+#[test]
+fn sigterm_while_cargo_builds_ends_a_build_script() {
+    let folder = folder_with_package("left-build");
+    fs::write(folder.file("build.rs"), SCRIPT).expect("the folder is there");
+    let (output, time, left) = signalled(&folder, "--lib", "TERM");
+    let text = String::from_utf8_lossy(&output.stdout);
+    assert!(text.contains("the run was cancelled (Signal)\n"), "{text}");
+    assert!(text.ends_with("\noutcome cancelled\n"), "{text}");
+    assert_eq!(output.status.code(), Some(1));
+    assert!(time < Duration::from_secs(10), "{time:?}");
+    assert_eq!(left, [""; 0]);
+}
+
+/// A command that leaves two processes behind if it is ended: one that holds its output open, and one that ends 0.3
+/// seconds after SIGTERM and then writes a file.
+const LEAVES: &str = "\
+(trap 'sleep 0.3; : >ended; exit' TERM; : >ready; while [ -e ready ]; do sleep 0.05; done) >/dev/null 2>&1 &
+sleep 100
+";
+
+#[test]
+fn sigterm_ends_what_a_command_leaves_behind() {
+    let folder = Folder::new("left-command");
+    let mut command = command("test-report", &["--", "sh", "-c", LEAVES]);
+    let child = command.current_dir(&folder.0).spawn();
+    let child = child.expect("the program starts");
+    let ready = folder.0.join("ready");
+    soon("the process that is left behind", move || {
+        while !ready.exists() {
+            thread::sleep(Duration::from_millis(20));
+        }
+    });
+    let start = Instant::now();
+    let script = format!("kill -s TERM {}", child.id());
+    let status = Command::new("sh").args(["-c", &script]).status();
+    assert!(status.expect("a shell runs").success());
+    let output = soon("the end of the program", move || child.wait_with_output());
+    assert_eq!(output.expect("the program ends").status.code(), Some(1));
+    // It does not wait until the output was quiet for two seconds.
+    assert!(start.elapsed() < Duration::from_secs(2));
+    assert!(folder.0.join("ended").exists());
 }

@@ -1,6 +1,6 @@
 //! A command that runs, while the program reads what it writes.
 
-use super::system::terminate;
+use super::system::{Orphans, terminate};
 use crate::program::{DEVICE_FAILED, Failure};
 use std::io::{self, PipeReader, pipe};
 use std::process::{Child, Command, ExitStatus, Stdio};
@@ -14,11 +14,14 @@ const QUIET: Duration = Duration::from_secs(2);
 const SHORT_LOOK: Duration = Duration::from_millis(5);
 
 /// A command that runs or has ended. If it is dropped while the command runs, the command is asked to end, and has two
-/// seconds to do so.
+/// seconds to do so. So has what the command leaves behind, if that was asked to end.
 #[derive(Debug)]
 pub struct RunningCommand {
     child: Child,
     status: Option<ExitStatus>,
+
+    /// What the command leaves behind, if that is asked to end, too.
+    orphans: Option<Orphans>,
 }
 
 impl RunningCommand {
@@ -55,6 +58,7 @@ impl RunningCommand {
         Ok(RunningCommand {
             child: command.spawn()?,
             status: None,
+            orphans: None,
         })
     }
 
@@ -65,7 +69,16 @@ impl RunningCommand {
         if self.status.is_none() {
             self.status = self.child.try_wait()?;
         }
+        self.end_orphans();
         Ok(self.status)
+    }
+
+    /// Asks what the command has left behind to end, if that is to end. Returns false if it runs.
+    fn end_orphans(&mut self) -> bool {
+        let command = self.child.id();
+        self.orphans
+            .as_mut()
+            .is_none_or(|orphans| orphans.end(command, false))
     }
 
     /// Asks the command to end, by SIGTERM, unless it has ended. Other systems end it.
@@ -74,6 +87,12 @@ impl RunningCommand {
         if matches!(self.status(), Ok(None)) {
             terminate(&mut self.child);
         }
+    }
+
+    /// Asks the command to end, and from now on, on Linux, also what it leaves behind.
+    pub fn terminate_all(&mut self) {
+        self.orphans.get_or_insert_with(Orphans::adopt);
+        self.terminate();
     }
 
     /// Returns the number of the command's process.
@@ -92,7 +111,8 @@ impl Drop for RunningCommand {
     fn drop(&mut self) {
         self.terminate();
         let start = Instant::now();
-        while matches!(self.status(), Ok(None)) && start.elapsed() < QUIET {
+        while (matches!(self.status(), Ok(None)) || !self.end_orphans()) && start.elapsed() < QUIET
+        {
             thread::sleep(SHORT_LOOK);
         }
     }

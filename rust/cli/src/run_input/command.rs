@@ -154,10 +154,10 @@ impl<W: Write> RunReader<'_, '_, W> {
         }
     }
 
-    /// Sends SIGTERM on to a command. Ctrl-C on a terminal reaches the command by itself.
+    /// Sends SIGTERM on to a command, and to what it leaves behind. Ctrl-C on a terminal reaches these by itself.
     fn pass_signal_on(&self, command: &mut RunningCommand) {
         if self.interrupt.take_terminate() {
-            command.terminate();
+            command.terminate_all();
         }
     }
 }
