@@ -322,11 +322,13 @@ fn only_another_command_that_writes_no_event_gets_advice() {
         assert_eq!(text.matches(&advice(shown)).count(), 1, "{text}");
     }
     let event = r#"echo '{ "type": "suite", "event": "started", "test_count": 0 }'"#;
-    let without: [&[&str]; 5] = [
+    let text = text_of(&[env!("CARGO"), "test", "--", "--format", "pretty"]);
+    let advice = "    the harness writes no lines that can be reported with another --format than json: leave it out\n";
+    assert_eq!(text.matches(advice).count(), 1, "{text}");
+    let without: [&[&str]; 4] = [
         &["sh", "-c", event],
         &["/no/such/program"],
         &[env!("CARGO"), "test"],
-        &[env!("CARGO"), "test", "--", "--format", "pretty"],
         &[env!("CARGO"), "test", "--no-run"],
     ];
     for words in without {

@@ -80,7 +80,10 @@ enum Acceptance {
 pub fn prepare(words: &[OsString]) -> Prepared {
     let mut prepared = match CargoCommand::of(&without_aliases(words)) {
         Some(cargo) if cargo.runner == Runner::Nextest => with_nextest(&cargo),
-        Some(cargo) if writes_other_format(&cargo) => unchanged(words),
+        Some(cargo) if writes_other_format(&cargo) => Prepared {
+            advice: Advice::OtherFormat,
+            ..unchanged(words)
+        },
         Some(cargo) => with_harness(&cargo, &acceptance_for(&cargo)),
         None => unchanged(words),
     };

@@ -109,7 +109,7 @@ impl TextForm {
     /// line of a harness.
     pub(crate) fn on_end(mut self, end: &RunEnd, lacks_events: bool) -> Vec<Text> {
         let mut head = Text::new(self.options.raw);
-        if lacks_events && matches!(self.advice, Advice::OtherCommand(_)) {
+        if lacks_events && self.advice.is_of_command() {
             self.push_advice(&mut head);
         }
         head.push(&format!("------------\n     Summary {}\n", summary(end)));
@@ -142,7 +142,7 @@ impl TextForm {
     /// Appends the advice. That about a command comes once.
     fn push_advice(&mut self, text: &mut Text) {
         text.push(&self.advice.text());
-        if let Advice::OtherCommand(_) = self.advice {
+        if self.advice.is_of_command() {
             self.advice = Advice::Nobody;
         }
     }
