@@ -11,7 +11,7 @@ pub struct Others<W> {
     /// True if the lines are written, and false if they are dropped.
     pub are_wanted: bool,
 
-    /// The lines that were written before, and are dropped if they come again. Each line is written in one call.
+    /// The lines that were written before, and are dropped if they come again. The report writes each line in one call.
     pub repeated: Repeated,
 
     has_failed: bool,
@@ -34,23 +34,14 @@ impl<W> Others<W> {
     }
 }
 
-impl<W: Write> Others<W> {
-    /// Writes the lines of a build that wait for other lines, if there are any.
-    pub fn write_finished(&mut self) -> io::Result<()> {
-        let finished = self.repeated.take_finished();
-        self.write_all(&finished)
-    }
-}
-
 impl<W: Write> Write for Others<W> {
     fn write(&mut self, buffer: &[u8]) -> io::Result<usize> {
-        if self.are_wanted && !self.has_failed {
-            let shown = self.repeated.shown(buffer);
-            let written = self.writer.write_all(&shown);
-            self.has_failed = written.is_err();
-            written?;
+        if !self.are_wanted || self.has_failed || self.repeated.repeats(buffer) {
+            return Ok(buffer.len());
         }
-        Ok(buffer.len())
+        let written = self.writer.write(buffer);
+        self.has_failed = !matches!(written, Ok(1..));
+        written
     }
 
     fn flush(&mut self) -> io::Result<()> {

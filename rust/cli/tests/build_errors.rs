@@ -222,39 +222,6 @@ fn a_warning_is_shown_once_by_both_cargos_and_nothing_is_compiled_anew() {
     assert_counts(&String::from_utf8_lossy(&output.stderr), &again);
 }
 
-/// Returns the lines of cargo on standard error without the time that it took, and without those in which it waits for a
-/// cargo of another test.
-fn without_time(output: &Output) -> String {
-    let text = String::from_utf8_lossy(&output.stderr);
-    let lines = text.lines().filter(|line| !line.contains("Blocking "));
-    let lines = lines.map(|line| {
-        let end = line.find(" target(s) in ").unwrap_or(line.len());
-        line[..end].to_string() + "\n"
-    });
-    lines.collect()
-}
-
-#[test]
-fn warnings_come_before_cargo_has_finished_as_cargo_itself_writes_them() {
-    let folder = folder_with("order", &package_that_warns(MANIFEST));
-    let cargo = || {
-        let mut cargo = Command::new(env!("CARGO"));
-        run_in(&folder.0, cargo.args(["test", "--lib"]))
-    };
-    let cold = cargo();
-    let warm = cargo();
-    let number = "warning: `tracker` (lib test) generated 2 warnings";
-    for output in [&cold, &warm] {
-        let text = without_time(output);
-        assert!(text.find(number) < text.find("    Finished "), "{text}");
-    }
-    fs::remove_dir_all(folder.0.join("target")).expect("cargo has built");
-    for wanted in [cold, warm] {
-        let output = report(&folder, &["--format", "names"], &["--lib"]);
-        assert_eq!(without_time(&output), without_time(&wanted));
-    }
-}
-
 /// Asserts what is reported of a build that fails without an error of the compiler, and that cargo's words are passed
 /// on.
 fn assert_cargo_says(folder: &Folder, arguments: &[&str], first: &str, rest: &str) {

@@ -186,38 +186,15 @@ finishes() {
 fn no_message_is_within_a_line_of_cargo() {
     let folder = Folder::new("whole");
     let build = "
-printf '    Bloc' >&2; sleep 0.2
+printf '    Fini' >&2; sleep 0.2
 says warning unused
-sleep 0.2; printf 'king waiting\\n    Exec' >&2; sleep 0.2
+sleep 0.2; printf 'shed in 2.0s\\n    Exec' >&2; sleep 0.2
 says warning other
 exit 0";
     let output = output_of(&folder, &["--format", "names"], &[MESSAGES, build].concat());
     let passed_on = String::from_utf8_lossy(&output.stderr);
-    let wanted = "unused\n    Blocking waiting\nother\n    Exec\n";
+    let wanted = "unused\n    Finished in 2.0s\nother\n    Exec\n";
     assert!(passed_on.starts_with(wanted), "{passed_on}");
-}
-
-#[test]
-fn that_cargo_has_built_is_passed_on_although_the_next_cargo_says_nothing() {
-    let folder = Folder::new("silent");
-    let script = "#!/bin/sh\ncase \" $* \" in\n*' --no-run '*) printf '    Finished in 2.0s\\nlast' >&2 ;;\nesac\n";
-    let cargo = folder.script("cargo", script);
-    for (variable, options) in [
-        ("RUSTC_BOOTSTRAP", &[][..]),
-        ("OTHER", &[]),
-        ("OTHER", &["--others", "never"]),
-    ] {
-        let mut command = command("test-report", options);
-        command.args(["--", &cargo, "test"]);
-        command.env_remove("RUSTC_BOOTSTRAP").env(variable, "1");
-        let output = command.output().expect("the program runs");
-        let wanted = if options.is_empty() {
-            "    Finished in 2.0s\nlast\n"
-        } else {
-            ""
-        };
-        assert_eq!(String::from_utf8_lossy(&output.stderr), wanted);
-    }
 }
 
 #[test]

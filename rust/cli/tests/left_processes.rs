@@ -3,7 +3,7 @@
 
 mod common;
 
-use common::{Folder, command, soon};
+use common::{Folder, command, path_of, soon};
 use std::fs;
 use std::path::Path;
 use std::process::{Command, Output};
@@ -64,6 +64,13 @@ fn processes_with(value: &str) -> Vec<String> {
         .collect()
 }
 
+/// Sends a signal to a process.
+fn send(signal: &str, process: u32) {
+    let script = format!("kill -s {signal} {process}");
+    let status = Command::new("sh").args(["-c", &script]).status();
+    assert!(status.expect("a shell runs").success(), "{signal}");
+}
+
 /// Runs the tests of the package with an argument, and sends a signal to `test-report` when one sleeps. Returns what
 /// `test-report` wrote, how long it took to end after the signal, and the processes that run one second later.
 fn signalled(folder: &Folder, argument: &str, signal: &str) -> (Output, Duration, Vec<String>) {
@@ -73,8 +80,11 @@ fn signalled(folder: &Folder, argument: &str, signal: &str) -> (Output, Duration
     for name in ["CARGO_TARGET_DIR", "RUSTC_BOOTSTRAP", "RUSTDOC"] {
         command.env_remove(name);
     }
+    let temporary = folder.file("tmp");
+    fs::create_dir_all(&temporary).expect("the folder is there");
     command
         .env("CARGO_NET_OFFLINE", "true")
+        .env("TMPDIR", temporary)
         .env(VARIABLE, &file)
         .current_dir(&folder.0);
     let child = command.spawn().expect("the program starts");
@@ -86,9 +96,7 @@ fn signalled(folder: &Folder, argument: &str, signal: &str) -> (Output, Duration
     });
     assert!(processes_with(&file).len() >= 3, "they have the variable");
     let start = Instant::now();
-    let script = format!("kill -s {signal} {}", child.id());
-    let status = Command::new("sh").args(["-c", &script]).status();
-    assert!(status.expect("a shell runs").success());
+    send(signal, child.id());
     let output = soon("the end of the program", move || child.wait_with_output());
     let time = start.elapsed();
     thread::sleep(Duration::from_secs(1));
@@ -165,12 +173,45 @@ fn sigterm_ends_what_a_command_leaves_behind() {
         }
     });
     let start = Instant::now();
-    let script = format!("kill -s TERM {}", child.id());
-    let status = Command::new("sh").args(["-c", &script]).status();
-    assert!(status.expect("a shell runs").success());
+    send("TERM", child.id());
     let output = soon("the end of the program", move || child.wait_with_output());
     assert_eq!(output.expect("the program ends").status.code(), Some(1));
     // It does not wait until the output was quiet for two seconds.
     assert!(start.elapsed() < Duration::from_secs(2));
     assert!(folder.0.join("ended").exists());
+}
+
+/// A shell that starts a process, writes its number to a file, and becomes another program.
+const BECOMES: &str = "sleep 300 >/dev/null 2>&1 & echo $! >before; exec \"$@\"";
+
+#[test]
+fn sigterm_ends_no_process_that_was_there_before() {
+    let folder = Folder::new("left-before");
+    let words = [
+        "sh",
+        path_of("test-report"),
+        "--",
+        "sh",
+        "-c",
+        ": >ready; sleep 100",
+    ];
+    let child = Command::new("sh")
+        .args(["-c", BECOMES])
+        .args(words)
+        .current_dir(&folder.0)
+        .spawn()
+        .expect("a shell starts");
+    let ready = folder.0.join("ready");
+    soon("the command", move || {
+        while !ready.exists() {
+            thread::sleep(Duration::from_millis(20));
+        }
+    });
+    send("TERM", child.id());
+    let output = soon("the end of the program", move || child.wait_with_output());
+    assert_eq!(output.expect("the program ends").status.code(), Some(1));
+    let before = fs::read_to_string(folder.file("before")).expect("it was written");
+    let before = before.trim().parse().expect("it is a number");
+    assert!(Path::new(&format!("/proc/{before}")).exists());
+    send("KILL", before);
 }

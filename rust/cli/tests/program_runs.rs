@@ -501,9 +501,14 @@ fn many_errors_of_the_compiler_take_time_in_proportion() {
 #[test]
 fn a_command_that_failed_did_not_end_well_later() {
     let passing = [PASSING, &ended("\"status\":0", "")].concat();
-    for ends in [[FAILED, PASSED], [PASSED, FAILED]] {
-        let text = report("text", &[STARTED, &passing, &ends.concat()]);
-        assert!(text.contains("outcome failed"), "{text}");
+    for (status, other) in [(3, 0), (0, 3), (-5, 0), (0, -5)] {
+        let end =
+            |status| format!("{{\"type\":\"command\",\"event\":\"ended\",\"status\":{status}}}\n");
+        let text = report("text", &[STARTED, &passing, &end(status), &end(other)]);
+        let failed = status + other;
+        let wanted = format!("the command ended with status {failed}, and no line says why\n");
+        assert!(text.starts_with(&wanted), "{text}");
+        assert!(text.ends_with("outcome failed\n"), "{text}");
     }
     let text = report("text", &[STARTED, &passing, PASSED, PASSED]);
     assert!(text.contains("outcome success"), "{text}");

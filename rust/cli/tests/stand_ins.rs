@@ -429,9 +429,10 @@ fn rustdoc_has_lines_only_if_it_runs_tests() {
     }
 }
 
-/// A program that runs until its file is gone, except that SIGTERM ends it with status 3, and that says when it is ready.
-const WAITS_AFTER_INTERRUPT: &str = "#!/bin/sh\ntrap : INT\ntrap ': >\"$0.ended\"; exit 3' TERM\necho $$ >\"$0.id\"\necho ready\n\
-    while [ -e \"$0\" ]; do sleep 0.05; done\n: >\"$0.left\"\n";
+/// A program that runs until its file is gone. After Ctrl-C it goes on, each SIGTERM adds a byte to a file, and it says when
+/// it is ready.
+const COUNTS: &str = "#!/bin/sh\ntrap : INT\ntrap 'printf x >>\"$0.asked\"' TERM\necho ready\n\
+    while [ -e \"$0\" ]; do sleep 0.05; done\n";
 
 /// Waits for a file, which must be there within a minute.
 fn wait_for_file(path: String) {
@@ -474,19 +475,37 @@ fn a_program_is_asked_to_end_if_the_parent_of_its_stand_in_has_gone() {
 }
 
 #[test]
-fn a_program_that_got_ctrl_c_ends_by_itself() {
+fn a_program_that_got_ctrl_c_has_ten_seconds_to_end_by_itself() {
     restore_interrupt();
     let folder = Folder::new("unread-int");
-    let path = folder.script("program", WAITS_AFTER_INTERRUPT);
+    let path = folder.script("program", COUNTS);
     let mut child = in_place_of(&path, &[]).spawn().expect("the program starts");
     let stdout = wait_for(child.stdout.take().expect("it is a pipe"), "ready\n");
+    let start = Instant::now();
     send("INT", &child);
     drop(stdout);
-    std::thread::sleep(Duration::from_millis(500));
-    assert!(!folder.0.join("program.ended").exists());
+    wait_for_file(format!("{path}.asked"));
+    assert!(start.elapsed() >= Duration::from_secs(9));
     fs::remove_file(&path).expect("it is there");
-    wait_for_file(path + ".left");
     assert_eq!(end_of(child).code(), Some(0));
+}
+
+#[test]
+fn a_program_that_was_asked_to_end_because_nobody_needs_it_is_not_asked_again() {
+    let folder = Folder::new("asked-once");
+    let path = folder.script("program", COUNTS);
+    let mut child = in_place_of(&path, &[]).spawn().expect("the program starts");
+    drop(wait_for(
+        child.stdout.take().expect("it is a pipe"),
+        "ready\n",
+    ));
+    wait_for_file(format!("{path}.asked"));
+    send("TERM", &child);
+    std::thread::sleep(Duration::from_millis(500));
+    fs::remove_file(&path).expect("it is there");
+    assert_eq!(end_of(child).code(), Some(0));
+    let asked = fs::read_to_string(format!("{path}.asked"));
+    assert_eq!(asked.expect("it is there"), "x");
 }
 
 /// A program that ignores SIGTERM, and leaves one process behind that ignores it and one that does not. Each writes a file

@@ -2,9 +2,7 @@
 
 use crate::report::build::without_colors;
 use bstr::ByteSlice;
-use std::borrow::Cow;
 use std::collections::HashSet;
-use std::mem;
 
 /// What follows one of these texts in a line of cargo can change: which of two equal warnings it counts, and a time.
 const BEFORE_CHANGES: [&str; 2] = [" generated ", " target(s) in "];
@@ -33,21 +31,16 @@ pub struct Repeated {
 
     /// True if no line says that cargo has finished, and so the first line of a test program does.
     is_quiet: bool,
-
-    /// The lines of the build that are still to be passed on, from the one on in which cargo says that it has finished.
-    finished: Vec<u8>,
 }
 
 impl Repeated {
     /// Returns the lines that were written by a cargo that has built. `is_quiet` is true if it says nothing of its own.
-    /// `finished` are those of them that were not passed on.
-    pub fn new(written: &[u8], words: CargoWords, is_quiet: bool, finished: Vec<u8>) -> Repeated {
+    pub fn new(written: &[u8], words: CargoWords, is_quiet: bool) -> Repeated {
         let lines = written.lines_with_terminator().map(unchanged_part);
         Repeated {
             lines: lines.map(<[u8]>::to_vec).collect(),
             words,
             is_quiet,
-            finished,
         }
     }
 
@@ -59,34 +52,12 @@ impl Repeated {
         }
     }
 
-    /// Returns what is passed on for a line of the run: nothing if it repeats a line of the build. The last lines of the
-    /// build replace the line that repeats their first one. If another line comes before that, they come before it,
-    /// unless cargo writes it while it finds out what it has to build.
-    pub fn shown<'a>(&mut self, line: &'a [u8]) -> Cow<'a, [u8]> {
-        if self.is_over() {
-            return line.into();
-        }
-        match (self.repeats(line), says_finished(line)) {
-            (true, true) => self.take_finished().into(),
-            (true, false) => Cow::default(),
-            (false, _) if self.finished.is_empty() || comes_before(line) => line.into(),
-            (false, _) => [&self.take_finished(), line].concat().into(),
-        }
-    }
-
-    /// Returns true if all lines are passed on as they are.
-    fn is_over(&self) -> bool {
-        self.lines.is_empty() && self.words == CargoWords::Known && self.finished.is_empty()
-    }
-
-    /// Returns the last lines of the build, once.
-    pub fn take_finished(&mut self) -> Vec<u8> {
-        mem::take(&mut self.finished)
-    }
-
     /// Returns true if a line of the run repeats a line of the build. From the line on in which cargo says that it
     /// compiles a package, and after the one in which it says that it has finished, no line does.
-    fn repeats(&mut self, line: &[u8]) -> bool {
+    pub fn repeats(&mut self, line: &[u8]) -> bool {
+        if self.lines.is_empty() && self.words == CargoWords::Known {
+            return false;
+        }
         if line.contains_str("Compiling ") {
             self.clear();
         }
@@ -104,49 +75,18 @@ impl Repeated {
         match self.words {
             CargoWords::Known => false,
             CargoWords::Unknown => {
-                says_finished(line) || is_warning(line) && !line.contains_str(" generated ")
+                let plain = without_colors(&line.to_str_lossy());
+                let is_finished = plain.trim_start().starts_with("Finished ");
+                let is_warning = EACH_TIME.iter().any(|front| plain.starts_with(front));
+                is_finished || is_warning && !plain.contains(" generated ")
             }
         }
     }
 
-    /// Forgets the lines of the build that were written: from now on no line repeats one.
+    /// Forgets the lines of the build: from now on no line repeats one.
     pub fn clear(&mut self) {
-        *self = Repeated {
-            finished: self.take_finished(),
-            ..Repeated::default()
-        };
+        *self = Repeated::default();
     }
-}
-
-/// Returns the offset of the first line in which cargo says that it has finished, if there is one.
-pub fn finished_at(text: &[u8]) -> Option<usize> {
-    let mut at = 0;
-    let mut lines = text.lines_with_terminator();
-    let is_found = lines.any(|line| {
-        let is_found = says_finished(line);
-        at += if is_found { 0 } else { line.len() };
-        is_found
-    });
-    is_found.then_some(at)
-}
-
-/// Returns true for the line in which cargo says that it has finished.
-fn says_finished(line: &[u8]) -> bool {
-    let plain = without_colors(&line.to_str_lossy());
-    plain.trim_start().starts_with("Finished ")
-}
-
-/// Returns true for a line that cargo writes before it has finished although it compiles nothing: a warning, or that it
-/// waits for another cargo.
-fn comes_before(line: &[u8]) -> bool {
-    let plain = without_colors(&line.to_str_lossy());
-    is_warning(line) || plain.trim_start().starts_with("Blocking ")
-}
-
-/// Returns true for a line of a warning of cargo.
-fn is_warning(line: &[u8]) -> bool {
-    let plain = without_colors(&line.to_str_lossy());
-    EACH_TIME.iter().any(|front| plain.starts_with(front))
 }
 
 /// Returns the part of a line that is the same if cargo writes the line again.
@@ -168,17 +108,13 @@ warning: `a` (lib test) generated 1 warning (1 duplicate)
 \u{1b}[1m\u{1b}[92m    Finished\u{1b}[0m `test` profile [unoptimized] target(s) in 2.50s
 ";
 
-    /// Returns what is passed on of a run after this build. `finished` was not passed on of the build.
-    fn shown_after(build: &str, words: CargoWords, finished: &str, run: &str) -> String {
-        let mut repeated = Repeated::new(build.as_bytes(), words, false, finished.into());
-        let lines = run.split_inclusive('\n');
-        let shown = lines.map(|line| repeated.shown(line.as_bytes()).into_owned());
-        String::from_utf8(shown.collect::<Vec<_>>().concat()).expect("the lines are UTF-8")
-    }
-
     /// Returns the lines of a run that are not repeated after this build.
     fn left_after(build: &str, words: CargoWords, run: &str) -> String {
-        shown_after(build, words, "", run)
+        let mut repeated = Repeated::new(build.as_bytes(), words, false);
+        let lines = run.split_inclusive('\n');
+        lines
+            .filter(|line| !repeated.repeats(line.as_bytes()))
+            .collect()
     }
 
     /// Returns the lines of a run that are not repeated.
@@ -241,41 +177,5 @@ warning: printed
     fn all_is_left_of_a_run_that_compiles() {
         let run = format!("   Compiling money v0.1.0\n{RUN}");
         assert_eq!(left_after("", CargoWords::Unknown, &run), run);
-    }
-
-    #[test]
-    fn the_last_lines_of_a_build_come_after_the_number_of_its_warnings() {
-        let at = finished_at(BUILD.as_bytes()).expect("it has finished");
-        let finished = BUILD[at..].to_string() + "warning: old\n";
-        let shown = |run: &str| shown_after(BUILD, CargoWords::Known, &finished, run);
-        let number = "    Blocking b\n\u{1b}[1mwarning\u{1b}[0m: `b` (lib) generated 1 warning\n";
-        let run = format!(
-            "warning: unused\n{number}\u{1b}[1m\u{1b}[92m    Finished\u{1b}[0m `test` profile [unoptimized] target(s) in 0.02s\n     Running a\n"
-        );
-        assert_eq!(shown(&run), format!("{number}{finished}     Running a\n"));
-        // They come before all else.
-        for other in ["     Running b\n", "   Compiling a\n", "error: a\n"] {
-            let run = format!("warning: unused\n{other}warning: unused\n");
-            let rest = if other.contains("Compiling") {
-                "warning: unused\n"
-            } else {
-                ""
-            };
-            assert_eq!(shown(&run), format!("{finished}{other}{rest}"));
-        }
-        assert_eq!(shown("warning: unused\n"), "");
-    }
-
-    #[test]
-    fn the_last_lines_of_a_build_begin_with_the_one_that_says_so() {
-        for (text, wanted) in [
-            ("", None),
-            ("Finished", None),
-            ("    Finished in 1s", Some(0)),
-            ("a\n\u{1b}[1m Finished\u{1b}[0m b\nFinished c\n", Some(2)),
-            ("a Finished b\n", None),
-        ] {
-            assert_eq!(finished_at(text.as_bytes()), wanted, "{text}");
-        }
     }
 }

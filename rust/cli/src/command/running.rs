@@ -13,15 +13,28 @@ const QUIET: Duration = Duration::from_secs(2);
 /// The time between two looks at a command that was asked to end.
 const SHORT_LOOK: Duration = Duration::from_millis(5);
 
+/// How long a command and what it leaves behind have to end after SIGTERM, if both are to end. Then they are killed.
+pub const PATIENCE: Duration = Duration::from_secs(10);
+
 /// A command that runs or has ended. If it is dropped while the command runs, the command is asked to end, and has two
-/// seconds to do so. So has what the command leaves behind, if that was asked to end.
+/// seconds to do so. So has what the command leaves behind, if that is to end, too.
 #[derive(Debug)]
 pub struct RunningCommand {
     child: Child,
     status: Option<ExitStatus>,
 
-    /// What the command leaves behind, if that is asked to end, too.
-    orphans: Option<Orphans>,
+    /// True if the command was asked to end.
+    is_asked: bool,
+
+    /// Set if the command is to end with what it leaves behind.
+    ending: Option<Ending>,
+}
+
+/// The end of a command and of what it leaves behind.
+#[derive(Debug)]
+struct Ending {
+    since: Instant,
+    orphans: Orphans,
 }
 
 impl RunningCommand {
@@ -58,7 +71,8 @@ impl RunningCommand {
         Ok(RunningCommand {
             child: command.spawn()?,
             status: None,
-            orphans: None,
+            is_asked: false,
+            ending: None,
         })
     }
 
@@ -69,41 +83,42 @@ impl RunningCommand {
         if self.status.is_none() {
             self.status = self.child.try_wait()?;
         }
-        self.end_orphans();
         Ok(self.status)
-    }
-
-    /// Asks what the command has left behind to end, if that is to end. Returns false if it runs.
-    fn end_orphans(&mut self) -> bool {
-        let command = self.child.id();
-        self.orphans
-            .as_mut()
-            .is_none_or(|orphans| orphans.end(command, false))
     }
 
     /// Asks the command to end, by SIGTERM, unless it has ended. Other systems end it.
     pub fn terminate(&mut self) {
         // A command that has been waited for has no number any more, and another process may have it.
         if matches!(self.status(), Ok(None)) {
+            self.is_asked = true;
             terminate(&mut self.child);
         }
     }
 
-    /// Asks the command to end, and from now on, on Linux, also what it leaves behind.
+    /// Asks the command to end, unless it was asked. From now on, on Linux, what it leaves behind is to end, too: see
+    /// [`RunningCommand::end_all`].
     pub fn terminate_all(&mut self) {
-        self.orphans.get_or_insert_with(Orphans::adopt);
-        self.terminate();
+        self.ending.get_or_insert_with(|| Ending {
+            since: Instant::now(),
+            orphans: Orphans::adopt(),
+        });
+        if !self.is_asked {
+            self.terminate();
+        }
     }
 
-    /// Returns the number of the command's process.
-    pub fn id(&self) -> u32 {
-        self.child.id()
-    }
-
-    /// Ends the command, by SIGKILL, unless it has ended.
-    pub fn kill(&mut self) {
-        // If that fails, it has ended.
-        let _ = self.child.kill();
+    /// If the command is to end with what it leaves behind, asks what it has left behind since then to end, and kills all
+    /// that runs ten seconds after the command was asked. Returns false if something runs that it has left behind.
+    pub fn end_all(&mut self) -> bool {
+        let Some(ending) = &mut self.ending else {
+            return true;
+        };
+        let kills = ending.since.elapsed() >= PATIENCE;
+        if kills {
+            // If that fails, it has ended.
+            let _ = self.child.kill();
+        }
+        ending.orphans.end(kills)
     }
 }
 
@@ -111,8 +126,7 @@ impl Drop for RunningCommand {
     fn drop(&mut self) {
         self.terminate();
         let start = Instant::now();
-        while (matches!(self.status(), Ok(None)) || !self.end_orphans()) && start.elapsed() < QUIET
-        {
+        while (matches!(self.status(), Ok(None)) || !self.end_all()) && start.elapsed() < QUIET {
             thread::sleep(SHORT_LOOK);
         }
     }
@@ -130,7 +144,7 @@ mod tests {
     use std::os::unix::process::ExitStatusExt;
 
     /// How long a command may take to end.
-    const PATIENCE: Duration = Duration::from_secs(60);
+    const LONGEST: Duration = Duration::from_secs(60);
 
     /// Starts a script of the shell.
     fn start(script: &str) -> (RunningCommand, PipeReader) {
@@ -142,7 +156,7 @@ mod tests {
     /// Returns the status with which a command ends.
     fn status_of(running: &mut RunningCommand) -> ExitStatus {
         let start = Instant::now();
-        while start.elapsed() < PATIENCE {
+        while start.elapsed() < LONGEST {
             if let Some(status) = running.status().expect("the command is a child") {
                 return status;
             }

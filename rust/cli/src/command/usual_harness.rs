@@ -6,8 +6,8 @@ use std::fs::File;
 use std::io::{self, Read};
 use std::path::Path;
 
-/// A variable that the harness reads for one of the options that it gets. Each program with the harness has this name in
-/// it, optimized and without symbols, too.
+/// A variable that the harness reads for its option `--report-time`. Each program with the harness has this name in it,
+/// optimized and without symbols, too.
 const MARK: &[u8] = b"RUST_TEST_TIME_UNIT";
 
 /// How many bytes are looked at in one piece.

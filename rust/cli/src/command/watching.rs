@@ -3,8 +3,8 @@
 use super::end::process_end;
 use super::last_output::LastOutput;
 use super::run_line::{ProgramLine, RunLine, StartedProgram, is_run_line};
-use super::running::RunningCommand;
-use super::system::{Orphans, Signals};
+use super::running::{PATIENCE, RunningCommand};
+use super::system::Signals;
 use crate::lines::Lines;
 use crate::process_streams::{LOOK, ProcessStreams, Stream};
 use std::io::{self, BufWriter, Write};
@@ -16,9 +16,6 @@ use std::time::{Duration, Instant};
 /// The first time between two looks at a program that has closed its output and has not ended. Each one is twice as long
 /// as the one before.
 const FIRST_LOOK: Duration = Duration::from_millis(1);
-
-/// How long a program that nobody needs any more, and what it left behind, have to end when they were asked to.
-const PATIENCE: Duration = Duration::from_secs(10);
 
 /// The most bytes of short lines that are written at once.
 const BUFFER: usize = 65_536;
@@ -95,21 +92,8 @@ struct Watched {
     program: RunningCommand,
     signals: Signals,
 
-    /// Set as soon as this process was found to be needed by nobody any more.
-    alone: Option<Alone>,
-}
-
-/// What a process does that nobody needs any more.
-struct Alone {
-    since: Instant,
-    orphans: Orphans,
-}
-
-impl Alone {
-    /// Returns true if what was asked to end has had its time.
-    fn is_late(&self) -> bool {
-        self.since.elapsed() >= PATIENCE
-    }
+    /// When Ctrl-C came. On a terminal it reaches the program by itself.
+    interrupted: Option<Instant>,
 }
 
 impl Watched {
@@ -118,7 +102,7 @@ impl Watched {
         Watched {
             program,
             signals,
-            alone: None,
+            interrupted: None,
         }
     }
 
@@ -129,37 +113,28 @@ impl Watched {
         self.program.status()
     }
 
-    /// Sends SIGTERM on to the program. Ctrl-C on a terminal reaches the program by itself. If nobody needs it any more,
-    /// ends it and what it leaves behind.
+    /// Sends SIGTERM on to the program. If nobody needs it any more, ends it and what it leaves behind; after Ctrl-C it has
+    /// ten seconds to end by itself.
     fn pass_end_on(&mut self) {
-        if self.signals.take_terminate() {
+        if self.signals.is_interrupted() {
+            self.interrupted.get_or_insert_with(Instant::now);
+        }
+        let ends_by_itself = self
+            .interrupted
+            .is_some_and(|since| since.elapsed() < PATIENCE);
+        if !ends_by_itself && self.signals.is_left_alone() {
+            // SIGTERM that comes then is not sent on: the program was asked.
+            self.program.terminate_all();
+        } else if self.signals.take_terminate() {
             self.program.terminate();
         }
-        if self.alone.is_none() && self.signals.is_left_alone() {
-            self.alone = Some(Alone {
-                since: Instant::now(),
-                orphans: Orphans::adopt(),
-            });
-            self.program.terminate();
-        }
-        if self.alone.as_ref().is_some_and(Alone::is_late) {
-            self.program.kill();
-        }
-        self.end_orphans();
+        self.program.end_all();
     }
 
-    /// Ends what the program has left behind, if nobody needs it any more. Returns false if it runs.
-    fn end_orphans(&mut self) -> bool {
-        let program = self.program.id();
-        match &mut self.alone {
-            Some(alone) => alone.orphans.end(program, alone.is_late()),
-            None => true,
-        }
-    }
-
-    /// Waits for the end of what the program has left behind, if nobody needs it any more.
+    /// Waits for the end of what the program has left behind, if that is to end. What cannot be killed is not waited for.
     fn wait_for_orphans(&mut self) {
-        while !self.end_orphans() {
+        let start = Instant::now();
+        while !self.program.end_all() && start.elapsed() < 2 * PATIENCE {
             thread::sleep(LOOK);
         }
     }

@@ -75,7 +75,9 @@ impl ProgramLines {
             }
             Some(ProgramLine::CommandEnded { end, reason, .. }) => {
                 self.cancelled = reason.or(self.cancelled);
-                self.status = end.and_then(status_of);
+                // Of a later end only a failure counts.
+                let status = end.and_then(status_of).filter(|status| *status != 0);
+                self.status = status.or(self.status);
                 self.end_program()
             }
         }

@@ -38,16 +38,13 @@ impl<W: Write> RunReader<'_, '_, W> {
         self.report.set_advice(prepared.advice.clone());
         self.report
             .set_errors_are_passed_on(self.pass_on.of_command());
-        let end = match &prepared.stand_in {
+        match &prepared.stand_in {
             Some(path) => {
                 self.run_with_stand_ins(prepared, path)?;
-                None
+                Ok(None)
             }
-            None => Some(self.run_in_one_pipe(prepared)?),
-        };
-        // The writer remembers a failure.
-        let _ = self.streams.others.write_finished();
-        Ok(end)
+            None => Ok(Some(self.run_in_one_pipe(prepared)?)),
+        }
     }
 
     /// Runs a command without stand-ins. Both of its streams are one pipe.
@@ -69,11 +66,11 @@ impl<W: Write> RunReader<'_, '_, W> {
         let built = self.build(prepared, build)?;
         let names = suite_names(&built.programs, &build.folder);
         self.report.start_command(names);
-        self.streams.others.repeated = built.repeated(prepared.is_quiet());
         if let Some(end) = self.end_before_run(&built.end) {
             self.fail_build(built);
             return Ok(end);
         }
+        self.streams.others.repeated = built.repeated(prepared.is_quiet());
         self.run(prepared)
     }
 
@@ -159,6 +156,7 @@ impl<W: Write> RunReader<'_, '_, W> {
         if self.interrupt.take_terminate() {
             command.terminate_all();
         }
+        command.end_all();
     }
 }
 

@@ -53,10 +53,10 @@ impl<W: Write> RunReader<'_, '_, W> {
         for line in built.messages.lines() {
             self.take_own_line(line.as_bytes())?;
         }
-        self.streams.others.repeated = built.repeated(prepared.is_quiet());
         if let Some(end) = self.end_before_run(&built.end) {
             return Ok((end, built.error()));
         }
+        self.streams.others.repeated = built.repeated(prepared.is_quiet());
         file.write(&built.programs)?;
         self.watch(prepared, file, path)
     }

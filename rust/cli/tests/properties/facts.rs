@@ -352,10 +352,11 @@ impl Programs {
             }
             Some(ProgramLine::CommandEnded { reason, end, .. }) => {
                 self.cancelled = reason.or(self.cancelled);
-                self.status = match end {
-                    Some(ProgramEnd::Status(status)) => Some(*status),
-                    Some(ProgramEnd::Signal(_)) | None => None,
-                };
+                match end {
+                    Some(ProgramEnd::Status(0)) => {}
+                    Some(ProgramEnd::Status(status)) => self.status = Some(*status),
+                    Some(ProgramEnd::Signal(_)) | None => self.status = None,
+                }
                 self.program.take()
             }
             Some(ProgramLine::CommandStarted) => None,

@@ -46,7 +46,8 @@ mod tests {
         assert_eq!(elsewhere::signal_of(status(9)), None);
         assert!(!elsewhere::is_ignored(2));
         let signals = elsewhere::Signals::catch().expect("nothing is done");
-        assert!(!signals.take_terminate() && !signals.is_left_alone());
+        assert!(!signals.take_terminate() && !signals.is_interrupted());
+        assert!(!signals.is_left_alone());
     }
 
     #[test]
@@ -60,7 +61,7 @@ mod tests {
     #[test]
     #[cfg(target_os = "linux")]
     fn on_other_systems_no_process_is_known_that_was_left_behind() {
-        assert!(super::no_orphans_on_linux::Orphans::adopt().end(1, true));
+        assert!(super::no_orphans_on_linux::Orphans::adopt().end(true));
     }
 
     #[test]

@@ -1,6 +1,6 @@
 //! Processes that a program leaves behind, on systems that are not Linux: they are left alone.
 
-/// The processes that a child of this process leaves behind when it ends.
+/// The processes that children of this process leave behind when they end.
 #[derive(Debug)]
 pub struct Orphans;
 
@@ -11,7 +11,7 @@ impl Orphans {
     }
 
     /// Returns true: no such process is known.
-    pub fn end(&mut self, _program: u32, _kills: bool) -> bool {
+    pub fn end(&mut self, _kills: bool) -> bool {
         true
     }
 }

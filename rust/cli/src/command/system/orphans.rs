@@ -3,10 +3,13 @@
 use std::fs;
 use std::ptr;
 
-/// The processes that a child of this process leaves behind when it ends. They become children of this process.
+/// The processes that children of this process leave behind when they end. They become children of this process.
 #[derive(Debug)]
 pub struct Orphans {
-    /// The numbers of those that got SIGTERM.
+    /// The numbers of the children that this process had before. A process that became this one may have started them.
+    others: Vec<i32>,
+
+    /// The numbers of the orphans that got SIGTERM.
     asked: Vec<i32>,
 }
 
@@ -17,15 +20,19 @@ impl Orphans {
         reason = "no safe call makes a process adopt those that are left behind"
     )]
     pub fn adopt() -> Orphans {
+        let others = children();
         // SAFETY: the call takes numbers and touches no memory. If it fails, no process is adopted.
-        unsafe { libc::prctl(libc::PR_SET_CHILD_SUBREAPER, 1) };
-        Orphans { asked: Vec::new() }
+        unsafe { libc::prctl(libc::PR_SET_CHILD_SUBREAPER, libc::c_ulong::from(1_u8)) };
+        Orphans {
+            others,
+            asked: Vec::new(),
+        }
     }
 
     /// Sends SIGTERM once to each process that was left behind and runs, or SIGKILL if `kills` is true. Returns false if
-    /// there is one. `program` is the number of the child that leaves them behind.
-    pub fn end(&mut self, program: u32, kills: bool) -> bool {
-        let is_orphan = |process: &i32| process.cast_unsigned() != program && !has_ended(*process);
+    /// there is one.
+    pub fn end(&mut self, kills: bool) -> bool {
+        let is_orphan = |process: &i32| !self.others.contains(process) && !has_ended(*process);
         let left: Vec<_> = children().into_iter().filter(is_orphan).collect();
         for process in &left {
             if kills {

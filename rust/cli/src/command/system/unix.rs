@@ -53,11 +53,14 @@ impl Signals {
         self.is_terminated.swap(false, Ordering::SeqCst)
     }
 
-    /// Returns true if the process that started this one has ended, or if nobody reads standard output any more. After
-    /// Ctrl-C it returns false: the terminal has asked all processes to end.
+    /// Returns true if SIGINT has come.
+    pub fn is_interrupted(&self) -> bool {
+        self.is_interrupted.load(Ordering::SeqCst)
+    }
+
+    /// Returns true if the process that started this one has ended, or if nobody reads standard output any more.
     pub fn is_left_alone(&self) -> bool {
-        !self.is_interrupted.load(Ordering::SeqCst)
-            && (parent_id() != self.parent || has_no_reader(io::stdout()))
+        parent_id() != self.parent || has_no_reader(io::stdout())
     }
 }
 
@@ -69,12 +72,12 @@ impl Signals {
 fn has_no_reader(pipe: impl AsRawFd) -> bool {
     let mut asked = libc::pollfd {
         fd: pipe.as_raw_fd(),
-        events: 0,
+        events: libc::POLLOUT,
         revents: 0,
     };
     // SAFETY: the call writes to this one structure, and does not wait.
     let count = unsafe { libc::poll(&raw mut asked, 1, 0) };
-    count == 1 && asked.revents & libc::POLLERR != 0
+    count == 1 && asked.revents & (libc::POLLERR | libc::POLLHUP) != 0
 }
 
 /// Returns true if this process ignores a signal.

@@ -7,15 +7,14 @@
 //! Cargo writes a line such as `Finished ..` in parts, right after the messages about what is built already. So nothing
 //! may be written between its parts. On a terminal warnings wait for a moment, and for the end of cargo if it has
 //! finished. In a pipe cargo's words wait until their line is whole, and for a moment, so that they come after the
-//! messages. The line `Finished ..` waits for the cargo that runs the tests: it says how many warnings there are, and
-//! that comes first.
+//! messages.
 
 use super::not_started;
 use crate::cargo_message::CargoMessage;
 use crate::command::artifacts::Artifacts;
 use crate::command::prepared::{Build, Prepared};
 use crate::command::programs::TestProgram;
-use crate::command::repeated::{CargoWords, Repeated, finished_at};
+use crate::command::repeated::{CargoWords, Repeated};
 use crate::command::running::{RunningCommand, not_waited};
 use crate::lines::Lines;
 use crate::process_streams::{LOOK, ProcessStreams, Stream};
@@ -54,9 +53,6 @@ pub(in crate::run_input) struct Built {
     /// What cargo wrote to standard error, or `None` if it wrote to that of this program.
     words: Option<Vec<u8>>,
 
-    /// What of it was not passed on: the line in which cargo says that it has finished, and those after it.
-    finished: Vec<u8>,
-
     /// How cargo ended.
     pub(in crate::run_input) end: CommandEnd,
 }
@@ -82,15 +78,18 @@ struct Output {
 }
 
 impl Built {
-    /// Returns the lines that the cargo which runs the tests would repeat, and those that it lets be passed on.
-    /// `is_quiet` is true if cargo writes no warnings of its own.
+    /// Returns the lines that the cargo which runs the tests would repeat. `is_quiet` is true if cargo writes no
+    /// warnings of its own.
     pub(in crate::run_input) fn repeated(&self, is_quiet: bool) -> Repeated {
-        let (written, words) = match &self.words {
-            Some(words) => ([&self.texts, words.as_slice()].concat(), CargoWords::Known),
-            None if is_quiet => (self.texts.clone(), CargoWords::Known),
-            None => (self.texts.clone(), CargoWords::Unknown),
-        };
-        Repeated::new(&written, words, is_quiet, self.finished.clone())
+        match &self.words {
+            Some(words) => Repeated::new(
+                &[self.texts.as_slice(), words].concat(),
+                CargoWords::Known,
+                is_quiet,
+            ),
+            None if is_quiet => Repeated::new(&self.texts, CargoWords::Known, is_quiet),
+            None => Repeated::new(&self.texts, CargoWords::Unknown, is_quiet),
+        }
     }
 
     /// Returns the error that cargo ended with, if it is known: in the words of cargo or, if it was not started, of the
@@ -151,28 +150,19 @@ impl Output {
         if !is_due || self.is_on_terminal() && self.is_finished {
             return Vec::new();
         }
-        let end = self.waiting.rfind_byte(b'\n').map_or(0, |at| at + 1);
-        self.take_front(end)
-    }
-
-    /// Returns all that waits, as whole lines, except what waits for the cargo that runs the tests.
-    fn take_waiting(&mut self) -> Vec<u8> {
-        if self.waiting.last().is_some_and(|byte| *byte != b'\n') {
-            self.waiting.push(b'\n');
-        }
-        self.take_front(self.waiting.len())
-    }
-
-    /// Returns what waits before an offset and, in a pipe, before the line in which cargo says that it has finished.
-    fn take_front(&mut self, end: usize) -> Vec<u8> {
         self.since = None;
-        let finished = if self.is_on_terminal() {
-            None
-        } else {
-            finished_at(&self.waiting)
-        };
-        let end = finished.map_or(end, |at| at.min(end));
+        let end = self.waiting.rfind_byte(b'\n').map_or(0, |at| at + 1);
         self.waiting.drain(..end).collect()
+    }
+
+    /// Returns all that waits, as whole lines.
+    fn take_waiting(&mut self) -> Vec<u8> {
+        self.since = None;
+        let mut bytes = mem::take(&mut self.waiting);
+        if bytes.last().is_some_and(|byte| *byte != b'\n') {
+            bytes.push(b'\n');
+        }
+        bytes
     }
 }
 
@@ -197,7 +187,6 @@ impl<W: Write> RunReader<'_, '_, W> {
             messages: output.messages,
             texts: output.texts,
             words: output.words,
-            finished: output.waiting,
             end,
         })
     }
