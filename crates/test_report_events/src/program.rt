@@ -11,7 +11,7 @@ use run_events_results::results::CancelReason;
 use serde_json::Value;
 use std::alloc::{AllocError, Global};
 
-/// The name of a program of which the line says neither the name nor the target nor the path.
+/// The name of a program if its line has no name, no target and no path.
 const NAMELESS: &str = "program";
 
 /// How a program or a command ended.

@@ -18,7 +18,7 @@ quoted words text =
     then (if starts_with nat_eq (without_number (after_first (λ b. b == 39) text)) words then Some (before_first (λ b. b == 39) text) else None)
     else None
 
--- the name of the thread of which a line says this: the line is `thread 'NAME'`, perhaps ` (N)`, and then these words
+-- the name of the thread in a line, which is `thread 'NAME'`, perhaps ` (N)`, and then these words
 abbrev pub thread_of : List ℕ → List ℕ → Option (List ℕ)
 thread_of words line = if starts_with nat_eq line (codes "thread '") then quoted words (drop 8 line) else None
 
@@ -26,6 +26,6 @@ thread_of words line = if starts_with nat_eq line (codes "thread '") then quoted
 abbrev pub with_thread : List ℕ → List (List ℕ) → List ℕ → List (List ℕ)
 with_thread words names line = option_map_or (insert_key (slice_cmp nat_cmp) names) (thread_of words line) names
 
--- the names of the threads of which a line of a text says this, in the order of texts
+-- the names of the threads in such lines of a text, in the order of texts
 abbrev pub threads_of : List ℕ → List ℕ → List (List ℕ)
 threads_of words text = fold (with_thread words) [] (lines text)

@@ -8,7 +8,7 @@ ghost use Rattle.test_report_run.specs.Over.{names_of};
 use std::alloc::{AllocError, Global};
 use std::collections::BTreeSet;
 
-/// Returns the names of the threads of which a line of a text says this, in these words.
+/// Returns the names of the threads in the lines `thread 'NAME' (N)WORDS..` of a text, which may lack ` (N)`.
 pub(crate) fn threads_of(
     alloc: Global,
     words: &str,
@@ -23,7 +23,7 @@ pub(crate) fn threads_of(
     Ok(names)
 }
 
-/// Adds the name of the thread of which a line says this, in these words, if it names one.
+/// Adds the name of the thread in a line, if it is such a line.
 fn add_thread(
     alloc: Global,
     names: &mut BTreeSet<String>,
@@ -40,7 +40,7 @@ fn add_thread(
     Ok(())
 }
 
-/// Returns the name of the thread of which a line says this, in these words.
+/// Returns the name of the thread in a line, if it is such a line.
 fn thread_of<'a>(words: &str, line: &'a str) -> Option<&'a str>
     ensures { option_map (λ name. name.now) result ≡ spec.thread_of words.now line.now }
 {

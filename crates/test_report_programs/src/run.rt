@@ -49,7 +49,7 @@ pub struct ProgramRun {
 }
 
 impl ProgramRun {
-    /// Returns a run of which no line was read. `run` is one, too.
+    /// Returns a run of programs over a new run.
     pub fn new(run: TestRun) -> ProgramRun
         ensures { programs_state result ≡ spec.programs_start (run_state run) }
     {
@@ -450,7 +450,7 @@ impl ProgramRun {
         }
     }
 
-    /// Ends the program that runs, if one does, and of which no line says how it ended.
+    /// Ends the program that runs, if one does. No line says how it ended.
     fn lose_program(&mut self, alloc: Global, notes: &mut Vec<Note>) -> Result<(), RunError>
         ensures { OnOk result (spec.step (programs_state self.new) (map note_view notes.new.items)
             ≡ spec.program_lost (spec.step (programs_state self.old) (map note_view notes.old.items))) }

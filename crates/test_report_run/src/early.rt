@@ -34,7 +34,7 @@ pub(crate) struct Ending {
 }
 
 impl EarlyEnd {
-    /// Returns an end of which nothing is known.
+    /// Returns an end that nothing says anything about.
     pub fn unknown(alloc: Global) -> EarlyEnd
         ensures { spec.early_view result ≡ record { end = None; overflowed = []; panicked = [] } }
     {
@@ -47,7 +47,7 @@ impl EarlyEnd {
 }
 
 impl Ending {
-    /// Returns the end of a suite of which nothing is known.
+    /// Returns the end of a suite that nothing says anything about.
     pub(crate) fn unknown() -> Ending
         ensures { spec.early_end_of result ≡ spec.nothing_known }
     {

@@ -3,8 +3,7 @@
 
 mod common;
 
-use common::{Folder, command};
-use std::fs;
+use common::{Folder, as_user, command};
 use std::path::Path;
 use std::process::{Command, Output};
 
@@ -56,28 +55,13 @@ fn main() {
 /// Returns a folder with these files.
 fn folder_with(test: &str, files: &[(&str, &str)]) -> Folder {
     let folder = Folder::new(test);
-    for (name, text) in files {
-        let path = folder.0.join(name);
-        fs::create_dir_all(path.parent().expect("a file is in a folder")).expect("it is new");
-        fs::write(path, text).expect("the folder is there");
-    }
+    folder.write(files);
     folder
 }
 
-/// Runs a command in a folder, as a user would who has set none of these variables.
+/// Runs a command in a folder.
 fn run_in(folder: &Path, command: &mut Command) -> Output {
-    for name in [
-        "CARGO_TARGET_DIR",
-        "CARGO_BUILD_JOBS",
-        "RUSTC_BOOTSTRAP",
-        "CARGO_TERM_COLOR",
-        "NO_COLOR",
-        "CI",
-    ] {
-        command.env_remove(name);
-    }
-    command.env("CARGO_NET_OFFLINE", "true").current_dir(folder);
-    command.output().expect("the program runs")
+    as_user(command, folder).output().expect("the program runs")
 }
 
 /// Runs `test-report` with options and a `cargo test` with arguments, in a folder.

@@ -3,7 +3,7 @@
 
 mod common;
 
-use common::{Folder, command};
+use common::{Folder, as_user, command};
 use std::fs;
 use std::path::Path;
 use std::process::{Command, Output};
@@ -67,27 +67,9 @@ fn sees_no_change() {
 /// The report of the package's tests, without times.
 const NAMES: &str = "fails\nis_killed\n";
 
-/// Writes the package to a folder.
-fn write_package(folder: &Folder) {
-    for (name, text) in PACKAGE {
-        let path = folder.0.join(name);
-        fs::create_dir_all(path.parent().expect("a file is in a folder")).expect("it is new");
-        fs::write(path, text).expect("the folder is there");
-    }
-}
-
-/// Runs a command in a folder, as a user would who has set none of these variables.
+/// Runs a command in a folder.
 fn run_in(folder: &Path, command: &mut Command) -> Output {
-    for name in [
-        "CARGO_TARGET_DIR",
-        "RUSTC_BOOTSTRAP",
-        "RUSTDOC",
-        "CARGO_TERM_COLOR",
-    ] {
-        command.env_remove(name);
-    }
-    command.env("CARGO_NET_OFFLINE", "true").current_dir(folder);
-    command.output().expect("the program runs")
+    as_user(command, folder).output().expect("the program runs")
 }
 
 /// Runs `test-report` with the arguments, in a folder.
@@ -120,7 +102,7 @@ fn assert_nothing_compiled(output: &Output) {
 #[test]
 fn nothing_is_compiled_again_and_documentation_tests_are_run() {
     let folder = Folder::new("again");
-    write_package(&folder);
+    folder.write(&PACKAGE);
     let mut cargo_test = Command::new(env!("CARGO"));
     run_in(&folder.0, cargo_test.args(["test", "--no-fail-fast"]));
     let output = report(&folder, &["--format", "names", "--", env!("CARGO"), "test"]);
@@ -143,7 +125,7 @@ fn nothing_is_compiled_again_and_documentation_tests_are_run() {
 #[test]
 fn a_runner_of_the_user_is_used_and_a_message_says_its_cost() {
     let folder = Folder::new("runner");
-    write_package(&folder);
+    folder.write(&PACKAGE);
     let runner = "target.'cfg(all())'.runner=['env', 'RUNNER=own']";
     let arguments = [
         "--format",
@@ -165,7 +147,7 @@ fn a_runner_of_the_user_is_used_and_a_message_says_its_cost() {
 #[test]
 fn a_runner_for_other_targets_and_a_setting_after_the_subcommand_cost_nothing() {
     let folder = Folder::new("other-runner");
-    write_package(&folder);
+    folder.write(&PACKAGE);
     fs::create_dir(folder.0.join(".cargo")).expect("it is new");
     let runners = "[target.'cfg(target_arch = \"wasm32\")']\nrunner = \"none\"\n\
                    [target.'cfg(all(target_arch = \"arm\", target_os = \"none\"))']\nrunner = \"none\"\n";
@@ -197,7 +179,7 @@ fn the_end_of_the_output_is_passed_on_without_a_line_feed() {
 #[test]
 fn a_package_that_does_not_compile_has_annotations() {
     let folder = Folder::new("broken");
-    write_package(&folder);
+    folder.write(&PACKAGE);
     fs::write(folder.0.join("tests/it.rs"), "fn main() { none() }\n").expect("it is a file");
     let output = report(
         &folder,
@@ -218,7 +200,7 @@ fn a_package_that_does_not_compile_has_annotations() {
 #[test]
 fn cargo_starts_the_report_as_its_subcommand() {
     let folder = Folder::new("subcommand");
-    write_package(&folder);
+    folder.write(&PACKAGE);
     let lists: [&[&str]; 2] = [
         &["test-report", "--format", "names", "--others", "never"],
         &["--format", "names", "--others", "never"],
@@ -254,7 +236,7 @@ fn cargo_starts_the_report_as_its_subcommand() {
 #[test]
 fn aliases_of_cargo_are_run_as_cargo() {
     let folder = Folder::new("aliases");
-    write_package(&folder);
+    folder.write(&PACKAGE);
     fs::create_dir(folder.0.join(".cargo")).expect("it is new");
     let aliases =
         "[alias]\nta = 'test --lib'\ntb = ['ta', 'fails']\ntest = 'build'\nloop = 'loop --lib'\n";

@@ -3,7 +3,7 @@
 
 mod common;
 
-use common::{Folder, command, path_of, soon};
+use common::{Folder, as_user, command, path_of, soon};
 use std::fs;
 use std::path::Path;
 use std::process::{Command, Output};
@@ -77,16 +77,11 @@ fn signalled(folder: &Folder, argument: &str, signal: &str) -> (Output, Duration
     let file = folder.file(&format!("sleeps{argument}{signal}"));
     let arguments = ["--", env!("CARGO"), "test", argument];
     let mut command = command("test-report", &arguments);
-    for name in ["CARGO_TARGET_DIR", "RUSTC_BOOTSTRAP", "RUSTDOC"] {
-        command.env_remove(name);
-    }
     let temporary = folder.file("tmp");
     fs::create_dir_all(&temporary).expect("the folder is there");
-    command
-        .env("CARGO_NET_OFFLINE", "true")
+    as_user(&mut command, &folder.0)
         .env("TMPDIR", temporary)
-        .env(VARIABLE, &file)
-        .current_dir(&folder.0);
+        .env(VARIABLE, &file);
     let child = command.spawn().expect("the program starts");
     let path = file.clone();
     soon("a test that sleeps", move || {
@@ -104,20 +99,10 @@ fn signalled(folder: &Folder, argument: &str, signal: &str) -> (Output, Duration
     (output.expect("the program ends"), time, left)
 }
 
-/// Writes the package to a folder for a test.
-fn folder_with_package(test: &str) -> Folder {
-    let folder = Folder::new(test);
-    for (name, text) in PACKAGE {
-        let path = folder.0.join(name);
-        fs::create_dir_all(path.parent().expect("a file is in a folder")).expect("it is new");
-        fs::write(path, text).expect("the folder is there");
-    }
-    folder
-}
-
 #[test]
 fn sigterm_to_the_report_alone_ends_all_processes() {
-    let folder = folder_with_package("left");
+    let folder = Folder::new("left");
+    folder.write(&PACKAGE);
     for (argument, stopped) in [
         ("--lib", "     STOPPED money sleeps\n"),
         (
@@ -142,7 +127,8 @@ fn sigterm_to_the_report_alone_ends_all_processes() {
 
 #[test]
 fn sigterm_while_cargo_builds_ends_a_build_script() {
-    let folder = folder_with_package("left-build");
+    let folder = Folder::new("left-build");
+    folder.write(&PACKAGE);
     fs::write(folder.file("build.rs"), SCRIPT).expect("the folder is there");
     let (output, time, left) = signalled(&folder, "--lib", "TERM");
     let text = String::from_utf8_lossy(&output.stdout);

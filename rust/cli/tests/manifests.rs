@@ -3,7 +3,7 @@
 
 mod common;
 
-use common::{Folder, command};
+use common::{Folder, as_user, command};
 use std::fs;
 
 /// A manifest with parts that follow its tables.
@@ -56,22 +56,13 @@ const SOURCES: [(&str, &str); 3] = [
 #[test]
 fn each_program_has_its_harness_although_the_manifest_cannot_be_read() {
     let folder = Folder::new("manifests");
-    for (name, text) in SOURCES {
-        let path = folder.0.join(name);
-        fs::create_dir_all(path.parent().expect("a file is in a folder")).expect("it is new");
-        fs::write(path, text).expect("the folder is there");
-    }
+    folder.write(&SOURCES);
     for (first, second) in MANIFESTS {
         let manifest = [first, second].concat();
         fs::write(folder.file("Cargo.toml"), &manifest).expect("the folder is there");
         let mut command = command("test-report", &["--", env!("CARGO"), "test"]);
-        for name in ["CARGO_TARGET_DIR", "RUSTC_BOOTSTRAP", "RUSTDOC"] {
-            command.env_remove(name);
-        }
-        command
-            .env("CARGO_NET_OFFLINE", "true")
-            .current_dir(&folder.0);
-        let output = command.output().expect("the program runs");
+        let output = as_user(&mut command, &folder.0).output();
+        let output = output.expect("the program runs");
         let text = String::from_utf8_lossy(&output.stdout);
         assert!(
             text.contains(" 2 tests run: 2 passed "),

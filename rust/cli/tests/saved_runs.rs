@@ -3,7 +3,7 @@
 
 mod common;
 
-use common::{Folder, Running, command, run, soon, started, wait_for};
+use common::{Folder, Running, as_user, command, run, soon, started, wait_for};
 use serde_json::{Value, json};
 use std::fs;
 use std::io;
@@ -53,29 +53,10 @@ fn fails() {
     ),
 ];
 
-/// Writes the package to a folder.
-fn write_package(folder: &Folder) {
-    for (name, text) in PACKAGE {
-        let path = folder.0.join(name);
-        fs::create_dir_all(path.parent().expect("a file is in a folder")).expect("it is new");
-        fs::write(path, text).expect("the folder is there");
-    }
-}
-
-/// Returns a run of `test-report` in a folder, as a user would start it who has set none of these variables.
+/// Returns a run of `test-report` in a folder.
 fn report(folder: &Folder, arguments: &[&str]) -> Command {
     let mut command = command("test-report", arguments);
-    for name in [
-        "CARGO_TARGET_DIR",
-        "RUSTC_BOOTSTRAP",
-        "RUSTDOC",
-        "CARGO_TERM_COLOR",
-    ] {
-        command.env_remove(name);
-    }
-    command
-        .env("CARGO_NET_OFFLINE", "true")
-        .current_dir(&folder.0);
+    as_user(&mut command, &folder.0);
     command
 }
 
@@ -115,7 +96,7 @@ fn without_hash(path: &str, folder: &Folder) -> String {
 #[test]
 fn a_run_of_cargo_is_saved_line_by_line() {
     let folder = Folder::new("saved");
-    write_package(&folder);
+    folder.write(&PACKAGE);
     let temporary = folder.0.join("temporary");
     fs::create_dir(&temporary).expect("it is new");
     let arguments = ["--save", "run.jsonl", "--", env!("CARGO"), "test"];
@@ -214,7 +195,7 @@ fn assert_passed_on(output: &Output) {
 #[test]
 fn a_build_that_fails_ends_the_run_with_its_words() {
     let folder = Folder::new("broken");
-    write_package(&folder);
+    folder.write(&PACKAGE);
     fs::write(folder.file("tests/own.rs"), "fn main() { none() }\n").expect("it is a file");
     let arguments = [
         "--save",
@@ -516,11 +497,7 @@ const WATCHED: [(&str, &str); 3] = [
 #[test]
 fn a_run_that_is_saved_in_the_folder_of_a_package_builds_it_once() {
     let folder = Folder::new("watched");
-    for (name, text) in WATCHED {
-        let path = folder.0.join(name);
-        fs::create_dir_all(path.parent().expect("a file is in a folder")).expect("it is new");
-        fs::write(path, text).expect("the folder is there");
-    }
+    folder.write(&WATCHED);
     let arguments = ["--save", "run.jsonl", "--", env!("CARGO"), "test", "--lib"];
     for count in 1..=2 {
         let mut command = report(&folder, &arguments);
@@ -601,7 +578,7 @@ fn a_file_that_cannot_be_written_ends_the_program_before_anything_runs() {
 #[test]
 fn a_temporary_folder_that_cannot_be_written_ends_the_program_before_anything_is_built() {
     let folder = Folder::new("temporary");
-    write_package(&folder);
+    folder.write(&PACKAGE);
     let file = folder.file("Cargo.toml");
     // The last one is there, but no byte can be written, as on a full device.
     for (temporary, script) in [
@@ -616,12 +593,10 @@ fn a_temporary_folder_that_cannot_be_written_ends_the_program_before_anything_is
         command
             .args(["-c", script, "sh", common::path_of("test-report"), "--"])
             .args([env!("CARGO"), "test"])
-            .env("TMPDIR", &temporary)
-            .env_remove("CARGO_TARGET_DIR")
-            .env_remove("RUSTC_BOOTSTRAP")
-            .env_remove("RUSTDOC")
-            .current_dir(&folder.0);
-        let output = command.output().expect("the program runs");
+            .env("TMPDIR", &temporary);
+        let output = as_user(&mut command, &folder.0)
+            .output()
+            .expect("the program runs");
         let message = String::from_utf8_lossy(&output.stderr);
         let wanted = format!(
             "test-report: the temporary folder {temporary} cannot be written; set TMPDIR to another one: "

@@ -3,8 +3,7 @@
 
 mod common;
 
-use common::{Folder, command};
-use std::fs;
+use common::{Folder, as_user, command};
 use std::path::Path;
 
 /// A workspace of three packages. Two have a file of the same name with tests.
@@ -49,11 +48,7 @@ const TESTS: &str = "//! ```\n//! assert_eq!(1, 1);\n//! ```\n#![allow(dead_code
 /// Writes the workspace to a folder.
 fn write_workspace(folder: &Folder) {
     let tests = SUITES.map(|(path, _)| (path, TESTS));
-    for (name, text) in MANIFESTS.iter().chain(&tests) {
-        let path = folder.0.join(name);
-        fs::create_dir_all(path.parent().expect("a file is in a folder")).expect("it is new");
-        fs::write(path, text).expect("the folder is there");
-    }
+    folder.write(MANIFESTS.iter().chain(&tests));
 }
 
 /// Returns the names of the suites in the order of the report, and without those that have no tests, if
@@ -62,11 +57,8 @@ fn names(folder: &Path, arguments: &[&str]) -> Vec<String> {
     let options = ["--format", "json", "--others", "never", "--"];
     let mut command = command("test-report", &options);
     command.args([env!("CARGO")]).args(arguments);
-    for name in ["CARGO_TARGET_DIR", "RUSTC_BOOTSTRAP", "RUSTDOC"] {
-        command.env_remove(name);
-    }
-    command.env("CARGO_NET_OFFLINE", "true").current_dir(folder);
-    let output = command.output().expect("the program runs");
+    let output = as_user(&mut command, folder).output();
+    let output = output.expect("the program runs");
     let report: serde_json::Value =
         serde_json::from_slice(&output.stdout).expect("the report is JSON");
     let suites = report["suites"].as_array().expect("this is a list").iter();

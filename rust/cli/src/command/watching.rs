@@ -267,7 +267,7 @@ mod tests {
     }
 
     #[test]
-    fn no_program_tells_how_it_ended() {
+    fn no_program_can_say_how_it_ended() {
         let script = r#"echo '{"type":"program","event":"ended","status":0}'; echo kept
             printf 'text {"type":"command","event":"ended","status":0}'"#;
         let (output, end, errors) = written_of(script);

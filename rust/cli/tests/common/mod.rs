@@ -8,7 +8,7 @@ use std::env;
 use std::ffi::OsStr;
 use std::fs::{self, File};
 use std::io::{Read, Write};
-use std::path::PathBuf;
+use std::path::{Path, PathBuf};
 use std::process::{self, Child, ChildStderr, ChildStdin, ChildStdout, Command, Output, Stdio};
 use std::sync::mpsc;
 use std::thread;
@@ -143,6 +143,22 @@ pub fn wait_for<R: Read + Send + 'static>(pipe: R, text: &str) -> R {
     read_until(pipe, text).1
 }
 
+/// Makes a command run in a folder as a user would run it who has set no variable that changes what cargo does.
+pub fn as_user<'a>(command: &'a mut Command, folder: &Path) -> &'a mut Command {
+    for name in [
+        "CARGO_TARGET_DIR",
+        "CARGO_BUILD_JOBS",
+        "CARGO_TERM_COLOR",
+        "RUSTC_BOOTSTRAP",
+        "RUSTDOC",
+        "NO_COLOR",
+        "CI",
+    ] {
+        command.env_remove(name);
+    }
+    command.env("CARGO_NET_OFFLINE", "true").current_dir(folder)
+}
+
 /// A folder that is removed at the end of a test.
 pub struct Folder(pub PathBuf);
 
@@ -153,6 +169,16 @@ impl Folder {
         let path = env::temp_dir().join(name);
         fs::create_dir(&path).expect("the folder is new");
         Folder(path)
+    }
+
+    /// Writes files, and the folders that they are in.
+    pub fn write<'a>(&self, files: impl IntoIterator<Item = &'a (&'a str, &'a str)>) {
+        for (name, text) in files {
+            let path = self.0.join(name);
+            let folder = path.parent().expect("a file is in a folder");
+            fs::create_dir_all(folder).expect("the folder can be made");
+            fs::write(path, text).expect("the folder is there");
+        }
     }
 
     /// Returns the path of a file in the folder.

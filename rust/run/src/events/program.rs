@@ -7,7 +7,7 @@ use crate::events::members::{number_of, text_of};
 use deodarsieve::CancelReason;
 use serde_json::Value;
 
-/// The name of a program of which the line says neither the name nor the target nor the path.
+/// The name of a program if its line has no name, no target and no path.
 const NAMELESS: &str = "program";
 
 /// How a program or a command ended.

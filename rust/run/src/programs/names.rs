@@ -3,7 +3,7 @@
 
 use std::collections::BTreeSet;
 
-/// Returns the names of the threads of which a line of a text says this, in these words.
+/// Returns the names of the threads in the lines `thread 'NAME' (N)WORDS..` of a text, which may lack ` (N)`.
 pub(crate) fn threads_of(words: &str, text: &str) -> BTreeSet<String> {
     let mut names = BTreeSet::new();
     for line in text.lines() {
@@ -12,7 +12,7 @@ pub(crate) fn threads_of(words: &str, text: &str) -> BTreeSet<String> {
     names
 }
 
-/// Adds the name of the thread of which a line says this, in these words, if it names one.
+/// Adds the name of the thread in a line, if it is such a line.
 fn add_thread(names: &mut BTreeSet<String>, words: &str, line: &str) {
     let Some(name) = thread_of(words, line) else {
         return;
@@ -21,7 +21,7 @@ fn add_thread(names: &mut BTreeSet<String>, words: &str, line: &str) {
     names.insert(name);
 }
 
-/// Returns the name of the thread of which a line says this, in these words.
+/// Returns the name of the thread in a line, if it is such a line.
 fn thread_of<'a>(words: &str, line: &'a str) -> Option<&'a str> {
     match line.strip_prefix("thread '") {
         Some(text) => quoted(words, text),

@@ -37,7 +37,7 @@ pub struct ProgramRun {
 }
 
 impl ProgramRun {
-    /// Returns a run of which no line was read. `run` is one, too.
+    /// Returns a run of programs over a new run.
     pub fn new(run: TestRun) -> ProgramRun {
         ProgramRun {
             counts: None,
@@ -331,7 +331,7 @@ impl ProgramRun {
         }
     }
 
-    /// Ends the program that runs, if one does, and of which no line says how it ended.
+    /// Ends the program that runs, if one does. No line says how it ended.
     fn lose_program(&mut self, notes: &mut Vec<Note>) -> Result<(), RunError> {
         if self.program.is_none() {
             return Ok(());

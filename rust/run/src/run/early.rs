@@ -30,7 +30,7 @@ pub(crate) struct Ending {
 }
 
 impl EarlyEnd {
-    /// Returns an end of which nothing is known.
+    /// Returns an end that nothing says anything about.
     pub fn unknown() -> EarlyEnd {
         EarlyEnd {
             end: None,
@@ -41,7 +41,7 @@ impl EarlyEnd {
 }
 
 impl Ending {
-    /// Returns the end of a suite of which nothing is known.
+    /// Returns the end of a suite that nothing says anything about.
     pub(crate) fn unknown() -> Ending {
         Ending {
             end: None,
