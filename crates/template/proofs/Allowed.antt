@@ -80,19 +80,19 @@ module _ (p : ℕ → Bool) (printable : (b : ℕ) → 32 ≤ b → b < 127 → 
       (either (v && b == 10) (lacks-print (codes "&#10;") refl) (subst (Lacks p) (encode_ascii b h) (one-char p b e))))))))
 
   -- values in Markdown
-  lacks-plain_char : (after_space : Bool) (c : ℕ) → p c ≡ false → Lacks p (plain_char after_space c)
-  lacks-plain_char after_space c e =
+  lacks-plain_char : (before c : ℕ) → p c ≡ false → Lacks p (plain_char before c)
+  lacks-plain_char before c e =
       either _ (both (lacks-print (codes "&#") refl) (both (lacks-decimal p printable c) (lacks-print (codes ";") refl))) (one-char p c e)
 
-  lacks-plain_chars : (after_space : Bool) (cs : List ℕ) → NonePass p cs → Lacks p (plain_chars after_space cs)
-  lacks-plain_chars after_space [] n = none p
-  lacks-plain_chars after_space (c ∷ cs) n = both (lacks-plain_char after_space c n.0) (lacks-plain_chars (c == 32) cs n.1)
+  lacks-plain_chars : (before : ℕ) (cs : List ℕ) → NonePass p cs → Lacks p (plain_chars before cs)
+  lacks-plain_chars before [] n = none p
+  lacks-plain_chars before (c ∷ cs) n = both (lacks-plain_char before c n.0) (lacks-plain_chars c cs n.1)
 
   lacks-hole : (kind : Hole) (text : List ℕ) → Lacks p (hole_text kind text)
   unfolding hole_text markup plain
   lacks-hole hole.Text text = lacks-bytes (markup_byte false) (high-markup false) (low-markup false) (lacks-shown text)
   lacks-hole hole.Attribute text = lacks-bytes (markup_byte true) (high-markup true) (low-markup true) (lacks-shown text)
-  lacks-hole hole.Plain text = lacks-plain_chars true (chars (shown text)) (none-pass (lacks-shown text))
+  lacks-hole hole.Plain text = lacks-plain_chars 32 (chars (shown text)) (none-pass (lacks-shown text))
 
   -- the template's own texts, if characters that pass another test fail this one
   module _ (test : ℕ → Bool) (own : (c : ℕ) → test c ≡ true → p c ≡ false) where

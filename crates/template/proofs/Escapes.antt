@@ -61,17 +61,17 @@ markup-escape v c =
 low : (b : ℕ) → is_hex b ≡ true → b < 128
 low b h = grind (arith, nat_tests, h)
 
-same-plain : (s : Bool) (b : ℕ) → is_hex b ≡ true → plain_char s b ≡ b ∷ []
+same-plain : (s : ℕ) (b : ℕ) → is_hex b ≡ true → plain_char s b ≡ b ∷ []
 same-plain s b h =
     let test : is_syntax s b ≡ false = grind (arith, nat_tests, h) in
     rw test (encode_ascii b (low b h))
 
-plain-hex : (s : Bool) (ds cs : List ℕ) → list_all is_hex ds ≡ true → plain_chars s (ds ++ 125 ∷ cs) ≡ ds ++ (codes "&#125;" ++ plain_chars false cs)
+plain-hex : (s : ℕ) (ds cs : List ℕ) → list_all is_hex ds ≡ true → plain_chars s (ds ++ 125 ∷ cs) ≡ ds ++ (codes "&#125;" ++ plain_chars 125 cs)
 unfolding digits
 plain-hex s [] cs h = refl
 plain-hex s (d ∷ ds) cs h =
     let both = and_parts (is_hex d) (list_all is_hex ds) h in
-    ap (λ l. l ++ plain_chars (d == 32) (ds ++ 125 ∷ cs)) (same-plain s d both.0) ∙ ap (λ l. d ∷ l) (plain-hex (d == 32) ds cs both.1)
+    ap (λ l. l ++ plain_chars d (ds ++ 125 ∷ cs)) (same-plain s d both.0) ∙ ap (λ l. d ∷ l) (plain-hex d ds cs both.1)
 
 -- all bytes of an escape are ASCII
 abbrev is_low : ℕ → Bool
@@ -98,9 +98,9 @@ chars-escape c = ascii-chars is_low below (escape c) (low-escape c)
 pub escape-before : (c : ℕ) (rest : List ℕ) → chars (escape c ++ rest) ≡ escape c ++ chars rest
 escape-before c rest = ascii-before is_low below (escape c) rest (low-escape c)
 
-pub plain-escape : (s : Bool) (c : ℕ) (cs : List ℕ) → plain_chars s (escape c ++ cs) ≡ plain_escape c ++ plain_chars false cs
+pub plain-escape : (s : ℕ) (c : ℕ) (cs : List ℕ) → plain_chars s (escape c ++ cs) ≡ plain_escape c ++ plain_chars 125 cs
 unfolding escape digits encode_utf8 plain_escape
 plain-escape s c cs =
     ap (plain_chars s) (ap (λ l. codes "\\u{" ++ l) (append_assoc (digits 16 false c) (codes "}") cs))
-    ∙ (ap (λ l. codes "&#92;u&#123;" ++ l) (plain-hex false (digits 16 false c) cs (hex-digits c))
-    ∙ ap (λ l. codes "&#92;u&#123;" ++ l) (sym (append_assoc (digits 16 false c) (codes "&#125;") (plain_chars false cs))))
+    ∙ (ap (λ l. codes "&#92;u&#123;" ++ l) (plain-hex 123 (digits 16 false c) cs (hex-digits c))
+    ∙ ap (λ l. codes "&#92;u&#123;" ++ l) (sym (append_assoc (digits 16 false c) (codes "&#125;") (plain_chars 125 cs))))

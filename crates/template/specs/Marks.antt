@@ -1,8 +1,8 @@
 -- What Markdown can read as its own: lines, cells and tags end at marks.
 use Rattle.std.specs.Prelude.{◌&&◌, ◌||◌, ◌==◌, ◌++◌, ◌∷◌, [], ℕ, Bool, true, false, not, List, codes, if◌then◌else◌, map}
-use Rattle.std.specs.Char.{is_ascii_punctuation}
 use Rattle.std.specs.List.{fold}
 use Rattle.std.specs.Str.{bytes_eq}
+use Rattle.template.specs.Hole.{is_special}
 use Rattle.template.specs.Reader.{is_letter}
 use Rattle.template.specs.Template.{EachPart, HolePart, NoParts, NonePart, OnePart, PartView, Parts, TextPart, Values, parts_text}
 use Rattle.template.specs.declared.hole.Hole.{Hole}
@@ -30,22 +30,22 @@ mark_step (Tag name) c =
 mark_step InPre c = if c == 60 then TagInPre [] else InPre
 mark_step (TagInPre name) c = if c == 62 then (if bytes_eq name (codes "/pre") then Outside else InPre) else TagInPre (name ++ (c ∷ []))
 
--- a byte is a mark: a line feed or punctuation of ASCII outside of `<pre>` and of references, and each byte of a tag
-abbrev pub is_mark : Marking → ℕ → Bool
-is_mark Outside c = c == 10 || (is_ascii_punctuation c && not (c == 38))
-is_mark Reference c = false
-is_mark (Tag name) c = true
-is_mark InPre c = c == 60
-is_mark (TagInPre name) c = true
+-- a byte is a mark after this one: a line feed or special punctuation of ASCII outside of `<pre>` and of references, and each byte of a tag
+abbrev pub is_mark : Marking → ℕ → ℕ → Bool
+is_mark Outside before c = c == 10 || (is_special before c && not (c == 38))
+is_mark Reference before c = false
+is_mark (Tag name) before c = true
+is_mark InPre before c = c == 60
+is_mark (TagInPre name) before c = true
 
--- the marks of a text from a state on
-abbrev pub marks_from : Marking → List ℕ → List ℕ
-marks_from s [] = []
-marks_from s (c ∷ text) = (if is_mark s c then c ∷ [] else []) ++ marks_from (mark_step s c) text
+-- the marks of a text from a state on, after this byte
+abbrev pub marks_from : Marking → ℕ → List ℕ → List ℕ
+marks_from s before [] = []
+marks_from s before (c ∷ text) = (if is_mark s before c then c ∷ [] else []) ++ marks_from (mark_step s c) c text
 
 -- the marks of a text
 unfoldable pub marks : List ℕ → List ℕ
-marks text = marks_from Outside text
+marks text = marks_from Outside 10 text
 
 abbrev mutual
   -- a part without its holes
@@ -88,10 +88,15 @@ abbrev pub marking_after_all : Marking → Parts → Marking
 marking_after_all s NoParts = s
 marking_after_all s (OnePart p ps) = marking_after_all (marking_after s p) ps
 
+-- the first byte is a mark or none whatever is before it: it is no `_`, `/` or point
+abbrev pub begins_alone : List ℕ → Bool
+begins_alone [] = true
+begins_alone (c ∷ text) = not (c == 46 || (c == 47 || c == 95))
+
 abbrev mutual
-  -- each hole of a part is in its place, and each section ends in the state in which it begins
+  -- each hole of a part is in its place, each own text begins alone, and each section ends in the state in which it begins
   pub is_placed : Marking → PartView → Bool
-  is_placed s (TextPart text) = true
+  is_placed s (TextPart text) = begins_alone text
   is_placed s (HolePart kind name) = is_place kind s
   is_placed s (EachPart name ps) = are_placed s ps && same_marking (marking_after_all s ps) s
   is_placed s (NonePart name ps) = are_placed s ps && same_marking (marking_after_all s ps) s

@@ -14,24 +14,24 @@ use std::fmt::Write;
 pub(crate) fn push_plain(text: &mut String, value: &str) -> Result<(), AllocError>
     ensures { OnOk result (string_bytes text.new ≡ string_bytes text.old ++ plain (shown value.now)) }
 {
-    let mut after_space = true;
+    let mut before = ' ';
     for c in value.chars() {
-        push_shown(text, after_space, c)?;
-        after_space = c == ' ';
+        push_shown(text, before, c)?;
+        before = c;
     }
     Ok(())
 }
 
 /// Appends a character of a value.
 #[tactic(auto, using(crate::proofs::Written::plain_shown_escape, crate::proofs::Written::plain_shown_other))]
-fn push_shown(text: &mut String, after_space: bool, c: char) -> Result<(), AllocError>
+fn push_shown(text: &mut String, before: char, c: char) -> Result<(), AllocError>
     ensures { OnOk result (string_bytes text.new
-        ≡ string_bytes text.old ++ plain_chars after_space (chars (shown_char c))) }
+        ≡ string_bytes text.old ++ plain_chars before (chars (shown_char c))) }
 {
     if is_escaped(c) {
         push_plain_escape(text, c)
     } else {
-        push_plain_char(text, after_space, allowed(c))
+        push_plain_char(text, before, allowed(c))
     }
 }
 
@@ -45,11 +45,11 @@ fn push_plain_escape(text: &mut String, c: char) -> Result<(), AllocError>
 }
 
 /// Appends a character.
-fn push_plain_char(text: &mut String, after_space: bool, c: char) -> Result<(), AllocError>
+fn push_plain_char(text: &mut String, before: char, c: char) -> Result<(), AllocError>
     ensures { OnOk result (string_bytes text.new
-        ≡ string_bytes text.old ++ plain_char after_space c) }
+        ≡ string_bytes text.old ++ plain_char before c) }
 {
-    if is_syntax(after_space, c) {
+    if is_syntax(before, c) {
         let code = u32::from(c);
         write!(text, "&#{code};")
     } else {
@@ -57,14 +57,25 @@ fn push_plain_char(text: &mut String, after_space: bool, c: char) -> Result<(), 
     }
 }
 
-/// Returns true for a character that can mean something to Markdown: ASCII punctuation, a tab, a line feed, and a
-/// space at the front or after another one.
-fn is_syntax(after_space: bool, c: char) -> bool
-    ensures { result ≡ spec.is_syntax after_space c }
+/// Returns true for a character that can mean something to Markdown after another one: most ASCII punctuation, a tab, a
+/// line feed, and a space after another one. A colon can only mean something before `/`, which is a reference there.
+fn is_syntax(before: char, c: char) -> bool
+    ensures { result ≡ spec.is_syntax before c }
 {
     match c {
         '\t' | '\n' => true,
-        ' ' => after_space,
+        ' ' => before == ' ',
+        '"' | '%' | '\'' | ',' | ':' | ';' | '?' => false,
+        '/' | '_' => !before.is_ascii_alphanumeric(),
+        '.' => !is_before_point(before),
         _ => c.is_ascii_punctuation(),
     }
+}
+
+/// Returns true for a character after which a point is no markup: an ASCII letter, but not `w`, because a point after
+/// `www` would begin the address of a link.
+fn is_before_point(c: char) -> bool
+    ensures { result ≡ spec.is_before_point c }
+{
+    c.is_ascii_alphabetic() && !matches!(c, 'W' | 'w')
 }

@@ -4,8 +4,8 @@ use Rattle.template.proofs.plain.push_plain.Goals as goal
 
 pub loop-c-preserved : goal.loop-c-preserved
 loop-c-preserved c =
-    plain-more c.loop-c.after_space c.in-Some.c _ _ _ _ _ c.in_ok-push_shown.ensures c.in-Some.ensures.steps.0 c.loop-c.invariant
+    plain-more c.loop-c.before c.in-Some.c _ _ _ _ _ c.in_ok-push_shown.ensures c.in-Some.ensures.steps.0 c.loop-c.invariant
 
 pub returns : goal.returns
 unfolding plain
-returns c = plain-end c.loop-c.after_space _ _ _ c.in-None.ensures.steps.0.0 c.loop-c.invariant
+returns c = plain-end c.loop-c.before _ _ _ c.in-None.ensures.steps.0.0 c.loop-c.invariant
