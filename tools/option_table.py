@@ -43,6 +43,8 @@ class Row:
     error: str = "pipe"
     source: str = ""
     variables: dict = field(default_factory=dict)
+    # The width of the terminal, if it has one.
+    columns: int = 0
     # If this is given, the last two lines of `text` come when it is on the terminal.
     pause: str = ""
     # Hard links that are made before the input comes, when the old files of these names are gone.
@@ -94,32 +96,37 @@ COLOURED = started(1) + failed("pa\\u001b[2Jys", "Error: \\u001b[31mred") + ende
 LONG_TEXT = "Error: " + "x" * 80_000
 LONG = started(1) + failed("pays", LONG_TEXT) + ended("failed", 0, 1)
 
-GREEN_TEXT = """\
-------------
-     Summary 1 tests run: 1 passed (0 flaky), 0 failed (0 timed out, 0 crashed), 0 skipped, 0 not run
-outcome success
-"""
-RED_TEXT = """\
-FAIL suite 1 pays
-    Error: no money
-------------
-     Summary 1 tests run: 0 passed (0 flaky), 1 failed (0 timed out, 0 crashed), 0 skipped, 0 not run
-        FAIL suite 1 pays: Error: no money
-outcome failed
-"""
+RULE = "------------\n"
+FAIL, WHY, LISTED = "FAIL suite 1 pays\n", "    Error: no money\n", "        FAIL suite 1 pays: Error: no money\n"
 
 
-def with_line(line, text):
-    """Returns the text of a report which fails because the end of its command is a disagreement, whose line this is."""
-    before, rule, after = text.partition("------------\n")
-    outcome = f"       ERROR {line}\noutcome failed"
-    after = after.replace("outcome success", "outcome failed").replace("outcome failed", outcome)
-    return f"{before}{line}\n{rule}{after}"
+def text_of(bad, line=""):
+    """Returns the text of a run with one test, which fails if `bad` is 1. A line is that of a disagreement of its command."""
+    parts = [(FAIL + WHY, LISTED, "1 failed")] if bad else []
+    parts += [(f"{line}\n", f"       ERROR {line}\n", "1 error")] if line else []
+    parts += [] if bad else [("", "", "1 passed")]
+    notes, listed, numbers = zip(*parts)
+    above = RULE + "".join(listed) if any(listed) else ""
+    summary = f"1 tests run: {1 - bad} passed (0 flaky), {bad} failed (0 timed out, 0 crashed), 0 skipped, 0 not run"
+    outcome = "failed" if bad or line else "success"
+    return f"{''.join(notes)}{above}{', '.join(numbers)}\n{RULE}     Summary {summary}\noutcome {outcome}\n"
+
+
+def of_command(text):
+    """Returns what the text of a run has if the program ran its command: the time after the numbers."""
+    before, rule, summary = text.rpartition("\n" + RULE)
+    return Parts([f"{before} in ", f" s{rule}{summary}"])
+
+
+GREEN_TEXT, RED_TEXT = text_of(0), text_of(1)
+
+# A terminal has no summary for scripts.
+RED_ON_TERMINAL = RED_TEXT.rpartition(RULE)[0]
 
 
 # What the report of a run without tests has in each form, if `--no-tests` is `fail` and if it is `pass`.
 NO_TESTS = {
-    "text": (Parts(["\noutcome no-tests-run\n"]), Parts(["\noutcome no-tests-run\n"])),
+    "text": (Parts(["no test ran", "\noutcome no-tests-run\n"]), Parts(["no test ran", "\noutcome no-tests-run\n"])),
     "github": (Parts(["::notice::", "no-tests-run"]), Parts(["::notice::", "no-tests-run"])),
     "names": ("", ""),
     "junit": (
@@ -138,7 +145,7 @@ RED_PARTS = {
     "names": "pays\n",
     "junit": Parts(['tests="1" failures="1" errors="0"', '<failure message="Error: no money" type="test failure">']),
     "html": Parts(["<h1>", "failed", "</h1>", "pays", "Error: no money"]),
-    "markdown": Parts(["## Test report: failed", "suite 1 pays", "Error&#58; no money"]),
+    "markdown": Parts(["## Test report: failed", "suite 1 pays", "Error: no money"]),
     "json": Parts(['{"outcome":"failed",', '"failed":1,', '"written_name":"pays","result":"failed",', '"Error: no money"']),
 }
 GREEN_PARTS = {
@@ -154,21 +161,17 @@ GREEN_PARTS = {
 # The line of a command that ended with status 7 though no test failed, and what the reports of such a run have.
 NO_REASON = "the command ended with status 7, and no line says why"
 UNEXPLAINED_PARTS = {
-    "text": with_line(NO_REASON, GREEN_TEXT),
+    "text": text_of(0, NO_REASON),
     "github": Parts([f"::error::{NO_REASON}\n", "::notice::", "failed"]),
     "names": "",
     "junit": Parts(['tests="2" failures="0" errors="1"', f'<error message="{NO_REASON}" type="disagreement">{NO_REASON}</error>']),
     "html": Parts(["<h1>", "failed", "</h1>", f"<li>{NO_REASON}</li>"]),
-    "markdown": Parts(["## Test report: failed", "the command ended with status 7&#44; and no line says why"]),
+    "markdown": Parts(["## Test report: failed", "the command ended with status 7, and no line says why"]),
     "json": Parts(['{"outcome":"failed",', '"passed":1,', f'"{NO_REASON}"'], ['"result":"failed"']),
 }
 
-# What is written of a run whose second file cannot be read: of the forms at the end, nothing.
-RED_BEGINS = {
-    "text": "FAIL suite 1 pays\n    Error: no money\n",
-    "github": Parts(["::error title=suite 1 pays::", "Error: no money"], ["::notice"]),
-    "names": "pays\n",
-}
+# What is written of a run whose second file cannot be read: of the forms at the end and of annotations, nothing.
+RED_BEGINS = {"text": FAIL + WHY, "names": "pays\n"}
 
 
 # Messages, without the system's error.
@@ -191,7 +194,7 @@ def forms():
         yield Row(f"{form}, no second file", [*option, "red.jsonl", "none.jsonl"], "", 3, begin, NO_INPUT, files)
         yield Row(f"{form}, a folder as second file", [*option, "red.jsonl", "."], "", 3, begin, NOT_READ, files)
         if form != "text":
-            shown = "\\u001b" if form == "json" else "u{1b}"
+            shown = {"json": "\\u001b", "markdown": "u&#123;1b&#125;"}.get(form, "u{1b}")
             yield Row(f"{form}, --raw", [*option, "--raw"], COLOURED, 1, Parts([shown], ["\x1b"]))
     yield Row("text is the default", [], RED, 1, RED_TEXT)
     torn = '{"type":"test","event":"failed","name":"pays'
@@ -250,7 +253,7 @@ def limits():
     """Yields the rows of `--limit`."""
     # A reason of one line is shown whatever the limit is, without the middle of a long line.
     for limit, shown in [("0", 0), ("100", 100), ("4096", 499), ("80007", 499), ("none", 499)]:
-        wanted = Parts([f"FAIL suite 1 pays\n    {CUT_TEXT}\n---", f"        FAIL suite 1 pays: {CUT_TEXT[:shown]}\noutcome"])
+        wanted = Parts([f"FAIL suite 1 pays\n    {CUT_TEXT}\n---", f"        FAIL suite 1 pays: {CUT_TEXT[:shown]}\n1 failed\n"])
         for arguments in (["--limit", limit], [f"--limit={limit}"]):
             yield Row(f"{arguments}", arguments, LONG, 1, wanted)
     rows = [f"row {number:03}" for number in range(1_000)]
@@ -282,7 +285,7 @@ PANICS = (
 def outputs():
     """Yields the rows of `--output`."""
     panics = started(1) + failed("pays", PANICS) + ended("failed", 0, 1)
-    short = "pays: panicked at src/a.rs:1:2: no money\n"
+    short = "        FAIL src/a.rs:1:2: suite 1 pays: no money\n"
     whole = (
         "    a line before\n    thread 'worker' (2) panicked at src/a.rs:1:2:\n    no money\n    a line between\n"
         "    thread 'pays' (1) panicked at src/b.rs:3:4:\n    the worker panicked\n------------\n"
@@ -329,60 +332,45 @@ def outputs():
 
 def levels():
     """Yields the rows of the levels, and of what the list at the end has."""
-    text = started(2) + passed("adds") + failed("pays", "Error: no money") + ended("failed", 1, 1)
-    line, why, listed = "FAIL suite 1 pays\n", "    Error: no money\n", "        FAIL suite 1 pays: Error: no money\n"
-    rule, passes, list_passes = "------------\n", "PASS suite 1 adds\n", "        PASS suite 1 adds\n"
-    for level in ("none", "fail", "retry", "slow", "leak"):
-        wanted = Parts([line + why + rule, listed], ["PASS"])
-        yield Row(f"--status-level {level}", ["--status-level", level], text, 1, wanted)
-    for level in ("pass", "skip", "all"):
-        yield Row(f"--status-level {level}", [f"--status-level={level}"], text, 1, Parts([passes + line + why + rule, listed]))
-    yield Row("--final-status-level none", ["--final-status-level", "none"], text, 1, Parts([line + why + rule], [listed]))
-    for level in ("fail", "flaky", "retry", "slow", "skip", "leak"):
-        yield Row(f"--final-status-level {level}", ["--final-status-level", level], text, 1, Parts([rule, listed], ["PASS"]))
-    for level in ("pass", "all"):
-        wanted = Parts([rule, list_passes + listed])
-        yield Row(f"--final-status-level {level}", ["--final-status-level", level], text, 1, wanted)
-    text = started(3) + flaky("lends") + ignored("waits") + failed("pays", "Error") + ended("failed", 1, 1)
-    twice, skip, last = "   FLAKY 2/2 suite 1 lends\n", "        SKIP suite 1 waits\n", "        FAIL suite 1 pays: Error\n"
-    for level in ("none", "fail"):
-        hidden = ["--status-level", level, "--final-status-level", "none"]
-        yield Row(f"--status-level {level}, a flaky test", hidden, text, 1, Parts([], ["FLAKY", "SKIP"]))
-    for level in ("retry", "slow", "leak", "pass", "skip", "all"):
-        skipped = "SKIP suite 1 waits\n" if level in ("skip", "all") else ""
-        wanted = Parts(["FLAKY 2/2 suite 1 lends\n" + skipped + "FAIL suite 1 pays\n    Error\n" + rule])
-        yield Row(f"--status-level {level}, a flaky test", ["--status-level", level], text, 1, wanted)
-    both = ["FLAKY 2/2 suite 1 lends\nFAIL suite 1 lends (2 attempts)\n    flaky, and set to fail\n" + rule, "        FAIL suite 1 lends: "]
+    text = started(4) + passed("adds") + flaky("lends") + ignored("waits") + failed("pays", "Error: no money") + ended("failed", 2, 1)
+    passes, lends, waits = "PASS suite 1 adds\n", "FLAKY 2/2 suite 1 lends\n", "SKIP suite 1 waits\n"
+    end = (
+        f"1 failed, 2 passed (1 flaky), 1 skipped\n{RULE}     Summary 3 tests run: 2 passed (1 flaky), "
+        "1 failed (0 timed out, 0 crashed), 1 skipped, 0 not run\noutcome failed\n"
+    )
+    for names, shown in [("none fail", ""), ("retry slow leak", lends), ("pass", passes + lends), ("skip all", passes + lends + waits)]:
+        for level in names.split():
+            arguments = ["--final-status-level", "none", f"--status-level={level}"]
+            yield Row(f"--status-level {level}", arguments, text, 1, shown + FAIL + WHY + end)
+    last = f"   {lends}{LISTED}"
+    skipped = f"        {waits}{last}"
+    for names, shown in [
+        ("none", ""), ("fail", RULE + LISTED), ("flaky retry slow", RULE + last), ("skip leak", RULE + skipped),
+        ("pass all", f"{RULE}        {passes}{skipped}"),
+    ]:
+        for level in names.split():
+            yield Row(f"--final-status-level {level}", ["--final-status-level", level], text, 1, FAIL + WHY + shown + end)
+    both = [f"{lends}FAIL suite 1 lends (2 attempts)\n    flaky, and set to fail\n{RULE}", "        FAIL suite 1 lends: "]
     set_to_fail = started(1) + flaky("lends") + ended("failed", 0, 1)
     yield Row("a flaky test that is set to fail", ["--status-level", "retry"], set_to_fail, 1, Parts(both, ["   FLAKY"]))
     row = '<h2>Flaky tests</h2>\n<table>\n<thead><tr><th scope="col">Test</th><th scope="col">Attempts</th>'
     yield Row("a flaky test in html", ["--format", "html"], text, 1,
               Parts([row, '<tr><th scope="row">suite 1 lends</th><td>2</td><td class="time">–</td></tr>\n</tbody>']))
     yield Row("a flaky test that is set to fail in html", ["--format", "html"], set_to_fail, 1, Parts(["(2 attempts)"], ["Flaky tests"]))
-    for level in ("skip", "all"):
-        yield Row(f"--status-level {level}, a skipped test", ["--status-level", level], text, 1, Parts(["SKIP suite 1 waits\nFAIL"]))
-    for level in ("none", "fail"):
-        yield Row(f"--final-status-level {level}, a flaky test", ["--final-status-level", level], text, 1,
-                  Parts([], ["FLAKY", "SKIP"]))
-    for level in ("flaky", "retry", "slow"):
-        yield Row(f"--final-status-level {level}, a flaky test", ["--final-status-level", level], text, 1,
-                  Parts([twice + last], ["SKIP"]))
-    for level in ("skip", "leak", "pass", "all"):
-        yield Row(f"--final-status-level {level}, a skipped test", ["--final-status-level", level], text, 1,
-                  Parts([skip + twice + last]))
     text = started(2) + passed("adds") + failed("pays", "Error: no money") + ended("failed", 1, 1)
+    line, why, listed, rule, numbers = FAIL, WHY, LISTED, RULE, "1 failed, 1 passed\n"
     margin = " " * 13 + "Error: no money\n"
     for when, wanted in [
-        ("immediate", Parts([line + why + rule, listed + "outcome"])),
+        ("immediate", Parts([line + why + rule, listed + numbers])),
         ("immediate-final", Parts([line + why + rule, listed + margin])),
         ("final", Parts([line + rule, listed + margin])),
-        ("never", Parts([line + rule, listed + "outcome"])),
+        ("never", Parts([line + rule, listed + numbers])),
     ]:
         yield Row(f"--failure-output {when}", ["--failure-output", when], text, 1, wanted)
     hidden = ["--status-level", "none", "--final-status-level", "none", "--failure-output", "never"]
     yield Row("no failed test is shown", hidden, text, 1, Parts([rule, "outcome failed\n"], ["FAIL"]))
     timed = text.replace('"stdout"', '"exec_time":0.25,"stdout"')
-    slow = "     SLOWEST [   0.250s] suite 1 pays\noutcome"
+    slow = f"     SLOWEST [   0.250s] suite 1 pays\n{listed}{numbers}"
     yield Row("--slowest 2", ["--slowest", "2"], timed, 1, Parts([slow]))
     yield Row("--slowest 0", ["--slowest", "0"], timed, 1, Parts([rule], ["SLOWEST"]))
     output = passed("adds").replace('"name"', '"stdout":"one\\r\\ntwo  \\n\\n","name"')
@@ -390,16 +378,16 @@ def levels():
     head, below, listed = "PASS suite 1 adds\n", "    one\n    two\n", "        PASS suite 1 adds\n"
     margin, other = " " * 13 + "one\n" + " " * 13 + "two\n", ["PASS suite 1 pays"]
     for when, wanted in [
-        ("immediate", Parts([head + below + rule], [*other, listed])),
-        ("immediate-final", Parts([head + below + rule, listed + margin + "        PASS suite 1 pays\noutcome"])),
-        ("final", Parts([rule, listed + margin + "        PASS suite 1 pays\noutcome"])),
+        ("immediate", Parts([head + below + "2 passed\n" + rule], [*other, listed])),
+        ("immediate-final", Parts([head + below + rule, listed + margin + "        PASS suite 1 pays\n2 passed\n"])),
+        ("final", Parts([rule, listed + margin + "        PASS suite 1 pays\n2 passed\n"])),
         ("never", Parts([rule], ["PASS", "one"])),
     ]:
         yield Row(f"--success-output {when}", ["--success-output", when], text, 0, wanted)
     below = text.replace("one", "one\\r\\nmore")
-    limited = Parts([head + "    one\n    (1 lines)\n    two\n" + rule])
+    limited = Parts([head + "    one\n    (1 lines)\n    two\n2 passed\n" + rule])
     yield Row("--limit of an output of a test that passed", ["--success-output", "immediate", "--limit", "3"], below, 0, limited)
-    twice = Parts([head + "    one\n    two\n" + rule])
+    twice = Parts([head + "    one\n    two\n2 passed\n" + rule])
     yield Row("--limit of two lines of such an output", ["--success-output", "immediate", "--limit", "3"], text, 0, twice)
     for option in ("--status-level", "--final-status-level", "--failure-output", "--success-output", "--slowest"):
         yield Row(f"an unknown value of {option}", [option, "late"], "", 2, "", Parts(["error: "]))
@@ -412,7 +400,8 @@ def slow_tests():
     text = started(2) + late + '{"type":"test","event":"ok","name":"adds"}\n' + quick + ended("ok", 2, 0)
     summary = " 2 tests run: 2 passed (0 flaky, {} slow), 0 failed (0 timed out, 0 crashed), "
     adds, pays = "        SLOW suite 1 adds\n", "        SLOW [   1.250s] suite 1 pays\n"
-    one, two = Parts([summary.format(1), adds + "outcome success"]), Parts([summary.format(2), adds + pays + "outcome"])
+    one = Parts([adds + "2 passed (1 slow)\n", summary.format(1)])
+    two = Parts([adds + pays + "2 passed (2 slow)\n", summary.format(2)])
     for seconds, wanted in [("60", one), ("1.25", two), ("1.250000", two), ("1.250001", one), ("0", two)]:
         yield Row(f"--slow {seconds}", ["--slow", seconds], text, 0, wanted)
     yield Row("a test of 60 seconds", [], text.replace("1.25", "60"), 0, Parts([summary.format(2)]))
@@ -428,9 +417,8 @@ def slow_tests():
 
 def annotations():
     """Yields the rows of `--annotations` and `GITHUB_ACTIONS`."""
-    before, rule, after = RED_TEXT.partition("------------\n")
     error = "::error title=suite 1 pays::suite 1 pays%0AError: no money\n"
-    both = Parts([before + error + rule + after + "::notice::1 tests run: 0 passed (0 flaky), 1 failed (0 timed out, "])
+    both = Parts([RED_TEXT + error + "::notice::1 tests run: 0 passed (0 flaky), 1 failed (0 timed out, "])
     on_github, elsewhere = {"GITHUB_ACTIONS": "true"}, {"GITHUB_ACTIONS": "TRUE"}
     yield Row("--annotations github", ["--annotations", "github"], RED, 1, both)
     for arguments in ([], ["--annotations", "auto"]):
@@ -446,38 +434,75 @@ def annotations():
     yield Row("an annotation has a limit", whole, LONG, 1, cut)
     yield Row("an annotation of all", [*whole, "--limit", "none"], LONG, 1, Parts(["%0A" + LONG_TEXT + "\n"]))
     crash = "its process ended before it did"
-    of_suite = f"CRASH suite 1 pays\n    {crash}\n::error title=suite 1 pays::suite 1 pays%0A{crash}\n"
-    outside = f"CRASH adds\n    {crash}\n1 tests started outside of a suite\n"
-    errors = f"::error title=adds::adds%0A{crash}\n::error::1 tests started outside of a suite\n"
+    outside = "1 tests started outside of a suite\n"
+    lines = f"CRASH suite 1 pays\n    {crash}\nCRASH adds\n    {crash}\n{outside}::error::{outside}{RULE}"
+    group = f"::error title=2 tests%3A {crash}::2 tests: {crash}%0Asuite 1 pays%0Aadds%0A{crash}\n::notice::"
     yield Row("annotations of suites that end with the file", ["--annotations", "github"],
-              start("adds") + started(1) + start("pays"), 1, Parts([of_suite + outside + errors + rule]))
+              start("adds") + started(1) + start("pays"), 1, Parts([lines, group]))
     early = ["suite 1 ended early\n", "suite 1: 2 of 2 tests were not run\n"]
     yield Row("annotations of a suite that ends early without a crash", ["--annotations", "github"], started(2), 1,
-              Parts(["".join(early) + "".join(f"::error::{line}" for line in early) + rule]))
+              Parts(["".join(early) + "".join(f"::error::{line}" for line in early) + RULE]))
     yield Row("other annotations", ["--annotations", "gitlab"], "", 2, "", Parts(["error: "]))
 
 
 def colours():
     """Yields the rows of `--color`, `NO_COLOR` and `--raw`."""
-    plain, red = RED_TEXT, Parts(["\x1b[", "FAIL", "\x1b[", " suite 1 pays\n", "outcome "])
+    plain, red = RED_TEXT, Parts(["\x1b[", "FAIL", "\x1b[", " suite 1 pays\n", "\x1b[1;31m1 failed\x1b[0m\n"])
     for value, wanted in [("auto", plain), ("never", plain), ("always", red)]:
         yield Row(f"--color {value} in a pipe", ["--color", value], RED, 1, wanted)
     yield Row("no option in a pipe", [], RED, 1, plain)
     yield Row("no option on a terminal", [], RED, 1, red, output="terminal")
+    plain = RED_ON_TERMINAL
     for value, without, given in [("auto", red, plain), ("never", plain, plain), ("always", red, red)]:
         for variables, wanted in [
             ({}, without), ({"NO_COLOR": ""}, without), ({"NO_COLOR": "1"}, given), ({"NO_COLOR": "0"}, given),
         ]:
             yield Row(f"--color {value} on a terminal, {variables}", ["--color", value], RED, 1, wanted,
                       output="terminal", variables=variables)
-    # Names stay escaped.
-    escaped = Parts(["FAIL", " suite 1 pa\\u{1b}[2Jys\n    Error: \\u{1b}[31mred\n"], ["\x1b[31m", "\x1b[2J"])
-    kept = Parts(["FAIL", " suite 1 pa\\u{1b}[2Jys\n    Error: \x1b[31mred\n"], ["\\u{1b}[31m", "\x1b[2J"])
-    for value in ("auto", "never", "always"):
-        for output in ("pipe", "terminal"):
-            for raw, wanted in [([], escaped), (["--raw"], kept)]:
+    # Names stay escaped. An output keeps its colours if the text has colours, or if it is raw.
+    name = " suite 1 pa\\u{1b}[2Jys\n"
+    without = Parts(["FAIL", f"{name}    Error: red\n"], ["\x1b", "[31m"])
+    coloured = Parts(["FAIL", f"{name}    Error: \x1b[31mred\x1b[0m", f"\n{RULE}"], ["\\u{1b}[31m", "\x1b[2J"])
+    kept = Parts(["FAIL", f"{name}    Error: \x1b[31mred\n"], ["\\u{1b}[31m", "\x1b[2J"])
+    for value, in_pipe, on_terminal in [("auto", without, coloured), ("never", without, without), ("always", coloured, coloured)]:
+        for output, shown in [("pipe", in_pipe), ("terminal", on_terminal)]:
+            for raw, wanted in [([], shown), (["--raw"], kept)]:
                 yield Row(f"{raw} --color {value}, {output}", [*raw, "--color", value], COLOURED, 1, wanted,
                           output=output)
+
+
+def terminals():
+    """Yields the rows of what depends on the terminal: links, the width, and whether a CI system reads the text."""
+    panic = "thread 'pays' (1) panicked at src/a.rs:1:2:\\nno money"
+    run, files = started(1) + failed("pays", panic) + ended("failed", 0, 1), {"src/a.rs": ""}
+    place, rest = "        FAIL src/a.rs:1:2", ": suite 1 pays: no money\n1 failed\n"
+    plain, link = Parts([place + rest], ["\x1b]8"]), Parts(["\x1b]8;;file:///", "/src/a.rs\x1b\\src/a.rs:1:2\x1b]8;;\x1b\\" + rest])
+    for variables, wanted in [
+        ({}, plain), ({"TERM": "xterm-256color"}, plain), ({"TERM": "xterm-kitty"}, link), ({"TERM": "foot"}, link),
+        ({"VTE_VERSION": "7000"}, link), ({"TERM_PROGRAM": "vscode"}, link), ({"TERM_PROGRAM": "Apple_Terminal"}, plain),
+        ({"KONSOLE_VERSION": ""}, plain), ({"WT_SESSION": "1", "TMUX": "1"}, plain), ({"DOMTERM": "1", "STY": "1"}, plain),
+        ({"FORCE_HYPERLINK": "1", "TMUX": "1"}, link), ({"FORCE_HYPERLINK": "1", "TERM": "dumb"}, plain),
+    ]:
+        yield Row(f"links on a terminal, {variables}", ["--color", "never"], run, 1, wanted, files=files, output="terminal",
+                  variables=variables)
+    forced = {"FORCE_HYPERLINK": "1"}
+    yield Row("links to no file", ["--color", "never"], run, 1, plain, output="terminal", variables=forced)
+    yield Row("links in a pipe", [], run, 1, Parts([f"{place}{rest}"], ["\x1b"]), files=files, variables=forced)
+    cut = Parts(["\n    thread 'pays' (1) panicked at src/a.rs:1:2:\n", "\n        FAIL src/a.rs:1:2: suite 1..\n"])
+    yield Row("a line of the list is cut", ["--color", "never"], run, 1, cut, files=files, output="terminal", columns=36)
+    for variables, output, error in [
+        ({}, "terminal", "::error::x ##["), ({"CI": "true"}, "terminal", ":\\u{3a}error::x ##\\u{5b}"),
+        ({"CI": ""}, "terminal", "::error::x ##["), ({}, "pipe", ":\\u{3a}error::x ##\\u{5b}"),
+    ]:
+        text = started(1) + failed("pays", "::error::x ##[") + ended("failed", 0, 1)
+        wanted = Parts([f"FAIL suite 1 pays\n    {error}\n"])
+        yield Row(f"a command in an output, {variables}, {output}", ["--color", "never"], text, 1, wanted, output=output,
+                  variables=variables)
+    dumb = {"TERM": "dumb"}
+    yield Row("a terminal without colours", [], RED, 1, RED_ON_TERMINAL, output="terminal", variables=dumb)
+    red = Parts(["\x1b[1;31mFAIL\x1b[0m suite"])
+    yield Row("colours that are wanted", ["--color", "always"], RED, 1, red, output="terminal", variables=dumb)
+    yield Row("a terminal without progress", [], RED, 1, RED_TEXT, error="terminal", variables=dumb)
 
 
 # What shows the line of progress and what takes it away.
@@ -496,7 +521,7 @@ def progress():
     yield Row("no option for progress on a terminal", [], RED, 1, RED_TEXT, line, error="terminal")
     # Both streams are one terminal. The lines on the screen at the end are the report alone.
     for arguments in ([], ["--progress", "auto"], ["--progress", "always"]):
-        yield Row(f"the screen, {arguments}", [*arguments, "--color", "never"], RED, 1, RED_TEXT,
+        yield Row(f"the screen, {arguments}", [*arguments, "--color", "never"], RED, 1, RED_ON_TERMINAL,
                   output="screen", error="screen", pause="0 of 1 tests, 0 failed")
 
 
@@ -667,7 +692,10 @@ RUNS = {"red.jsonl": RED, "green.jsonl": GREEN, "empty.jsonl": EMPTY}
 
 
 def command(words, status=0, stdout="", stderr="", options=(), **others):
-    """Returns the row of a command: a script of the shell, or a list of words. The stored runs are there as files."""
+    """Returns the row of a command: a script of the shell, or a list of words. The stored runs are there as files. A whole text
+    has the time of the command."""
+    if isinstance(stdout, str) and RULE in stdout:
+        stdout = of_command(stdout)
     words = words if isinstance(words, list) else ["sh", "-c", words]
     files = {**RUNS, **others.pop("files", {})}
     return Row(f"the command {words}, {options}, {others}", [*options, "--", *words], others.pop("text", ""), status,
@@ -690,8 +718,8 @@ def commands():
                   options=["--no-tests", "pass"])
     for number in (9, 15):
         line = f"the command ended by signal {number}"
-        yield command(f"cat green.jsonl; kill -{number} $$", 1, with_line(line, GREEN_TEXT))
-        yield command(f"cat red.jsonl; kill -{number} $$", 1, with_line(line, RED_TEXT))
+        yield command(f"cat green.jsonl; kill -{number} $$", 1, text_of(0, line))
+        yield command(f"cat red.jsonl; kill -{number} $$", 1, text_of(1, line))
     not_started = Parts(["the command could not be started: ", "\noutcome failed\n"], ["no line of the input"])
     for words in (["./none"], ["."], [""], ["-"], ["none", "red.jsonl"]):
         yield command(words, 1, not_started)
@@ -700,7 +728,7 @@ def commands():
     yield command("sleep 20 & cat green.jsonl", 0, GREEN_TEXT)
     yield command("(for line in 1 2 3 4; do sleep 0.8; sed -n ${line}p red.jsonl; done) &", 1, RED_TEXT)
     # A command that goes on without its streams is waited for.
-    yield command("cat green.jsonl; exec >&- 2>&-; sleep 1; exit 4", 1, with_line(NO_REASON.replace("7", "4"), GREEN_TEXT))
+    yield command("cat green.jsonl; exec >&- 2>&-; sleep 1; exit 4", 1, text_of(0, NO_REASON.replace("7", "4")))
     yield command("cat red.jsonl", 1, RED_TEXT, options=OPTIONS, after=WRITTEN)
     yield command("touch ran", 3, "", "test-report: red.jsonl/a cannot be written\n", ["--markdown", "red.jsonl/a"],
                   after={"ran": None})
@@ -818,6 +846,6 @@ def saved_runs():
 
 def rows():
     """Returns all rows."""
-    kinds = (forms, several_files, limits, outputs, levels, slow_tests, annotations, colours, progress, others, streams,
-             files, links, devices, conflicts, commands, surroundings, added_arguments, saved_runs)
+    kinds = (forms, several_files, limits, outputs, levels, slow_tests, annotations, colours, terminals, progress, others,
+             streams, files, links, devices, conflicts, commands, surroundings, added_arguments, saved_runs)
     return [row for kind in kinds for row in kind()]

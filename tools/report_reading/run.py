@@ -177,6 +177,10 @@ class Run:
         """Returns the disagreements and the suites whose tests were not all run."""
         return [note for note in self.notes if isinstance(note, Cause)]
 
+    def disagreements(self):
+        """Returns the disagreements alone."""
+        return [cause for cause in self.causes() if cause.is_disagreement]
+
     def flaky_tests(self):
         """Returns the flaky tests that passed, suite by suite."""
         return [test for suite in self.suites + self.parts for test in suite.tests if test.is_flaky()]
@@ -188,7 +192,7 @@ class Run:
         return sorted(timed, key=lambda test: -test.time)[:number]
 
     def totals(self, slow=SLOW):
-        """Returns the numbers of the `Summary` line, and its time in microseconds. From `slow` on a test is slow."""
+        """Returns the numbers of the run, and its time in microseconds. From `slow` on a test is slow."""
         every = self.suites + self.parts
         passed = [test for suite in every for test in suite.in_state(PASSED)]
         times = [time for time in (suite.time() for suite in every) if time is not None]
@@ -211,7 +215,7 @@ class Run:
 
     def outcome(self):
         """Returns the outcome of the run."""
-        if any(cause.is_disagreement for cause in self.causes()):
+        if self.disagreements():
             return "failed"
         outcomes = [suite.outcome() for suite in self.suites + self.parts]
         return max(outcomes, key=OUTCOMES.index, default="no-tests-run")

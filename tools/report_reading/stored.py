@@ -4,14 +4,17 @@ import difflib
 import re
 from decimal import Decimal
 
-from report_reading.run import SLOW, is_not_run, read
+from report_reading.run import SLOW, read
 from report_reading.suites import Test
-from report_reading.texts import flaky_line, heading, shown_text, shown_time, summary, names
+from report_reading.texts import HEADS, flaky_line, heading, names, numbers, shown_text, shown_time, summary, without_commands
 
 RULE = "------------"
 WHY = "    "
-LISTED = re.compile(r" *(?:FAIL|TIMEOUT|CRASH|ERROR) (.*)")
-SLOWEST = re.compile(r" *SLOWEST (\[ *[0-9.]+s\] ).*")
+MARGIN = " " * 13
+GROUP = re.compile(r"([0-9]+) tests: ")
+SLOWEST = re.compile(r"SLOWEST (\[ *[0-9.]+s\] ).*")
+# The results in the list, and where the tests with them are in it.
+ORDER = {"SLOWEST": 0, "PASS": 1, "SKIP": 1, "SLOW": 1, "FLAKY": 1, "FAIL": 2, "TIMEOUT": 2, "CRASH": 2, "STOPPED": 3, "ERROR": 4}
 LEVELS = ["--status-level", "--final-status-level", "--failure-output", "--success-output"]
 COLOR = re.compile("\x1b\\[[0-9;]*m")
 
@@ -57,8 +60,8 @@ def without_why(lines):
 
 
 def expected_notes(run):
-    """Returns the lines of a text report before its rule, except those that explain failures."""
-    return [heading(note) if isinstance(note, Test) else note.line for note in run.notes]
+    """Returns the lines of a text report before its list, except those that explain failures."""
+    return [without_commands(heading(note) if isinstance(note, Test) else note.line) for note in run.notes]
 
 
 def differing(expected, found, what):
@@ -67,41 +70,98 @@ def differing(expected, found, what):
     return [line for line in lines if not line.startswith("@@")]
 
 
-def flaky_differences(run, lines):
-    """Returns the differences in the flaky tests of the list after the `Summary` line."""
-    flaky = sorted(map(flaky_line, run.flaky_tests()))
-    found = sorted(line.lstrip(" ") for line in lines if line.lstrip(" ").startswith("FLAKY "))
-    return differing(flaky, found, "flaky tests")
+def entries(lines):
+    """Returns the entries of a list: the result, the text after it, and the lines below."""
+    found = []
+    for line in lines:
+        if line.startswith(MARGIN) and found:
+            found[-1][2].append(line[len(MARGIN) :])
+        else:
+            result, _, text = line.lstrip(" ").partition(" ")
+            found.append((result, text, []))
+    return found
+
+
+def order_of_names(test):
+    """Returns that by which failed tests are sorted in the list. A test without a suite is before all others."""
+    return (test.suite.name() is not None, test.suite.name() or "", test.name())
+
+
+def after(result, text):
+    """Returns a text as it is shown in a line after a result."""
+    return without_commands(f"{result} {text}")[len(result) + 1 :]
+
+
+def places_of(entry, tests):
+    """Returns where among the failed tests, which are sorted, those are that an entry names."""
+    result, text, below = entry
+    if not GROUP.match(text):
+        name = re.escape(after(result, names(tests[0])))
+        is_first = HEADS[tests[0].state] == result and re.match(f"(?:.*:[0-9]+: )?{name}: ", text)
+        return [0] if is_first else []
+    shown = [without_commands(names(test)) if HEADS[test.state] == result else None for test in tests]
+    places = []
+    for name in below:
+        at = places[-1] + 1 if places else 0
+        if name in shown[at:]:
+            places.append(shown.index(name, at))
+    return places
+
+
+def failed_differences(found, run):
+    """Returns the differences in the failed tests of the list, in which those with the same cause are one entry."""
+    left = sorted(run.failed_tests(), key=order_of_names)
+    for entry in found:
+        group = GROUP.match(entry[1])
+        places = places_of(entry, left) if left else []
+        if places[:1] != [0] or len(places) != (int(group[1]) if group else 1):
+            return [f"the list has no entry of the next failed test, but this one: {entry[0]} {entry[1]}"]
+        left = [test for place, test in enumerate(left) if place not in places]
+    return [f"the list lacks {heading(test)}" for test in left]
 
 
 def list_differences(run, lines, words):
-    """Returns the differences in the list after the `Summary` line: in the failed tests and the contradictions, and in the
-    times of the slowest tests."""
-    listed = [line[1] for line in map(LISTED.fullmatch, lines) if line]
-    notes = [note for note in run.notes if not is_not_run(note)]
-    failed = [f"{shown_time(note.time)}{names(note)}" if isinstance(note, Test) else note.line for note in notes]
-    begins = [whole[: len(begin)] for whole, begin in zip(listed, failed)] + listed[len(failed) :]
-    slow = [line[1] for line in map(SLOWEST.fullmatch, lines) if line]
+    """Returns the differences in the list: in the failed tests and the contradictions, in the times of the slowest tests, and
+    in the order."""
+    found = entries(lines)
+    places = [ORDER.get(result, -1) for result, _, _ in found]
+    slow = [line[1] for line in (SLOWEST.fullmatch(f"{result} {text}") for result, text, _ in found) if line]
     slowest = run.slowest(int(option(words, "--slowest", "0")))
+    errors = [text for result, text, _ in found if result == "ERROR"]
     return [
-        *differing(failed, begins, "list of failed tests and contradictions"),
+        *([] if places == sorted(places) else ["the list is not in the order of the results"]),
+        *failed_differences([entry for entry in found if entry[0] in HEADS.values()], run),
+        *differing([after("ERROR", cause.line) for cause in run.disagreements()], errors, "contradictions"),
         *differing([shown_time(test.time) for test in slowest], slow, "times of slow tests"),
     ]
+
+
+def flaky_differences(run, lines):
+    """Returns the differences in the flaky tests of the list."""
+    flaky = sorted(without_commands(flaky_line(test)) for test in run.flaky_tests())
+    found = sorted(f"{result} {text}" for result, text, _ in entries(lines) if result == "FLAKY")
+    return differing(flaky, found, "flaky tests")
 
 
 def text_differences(run, report, words):
     """Returns the differences between a report as text and its run. With an option of the levels, other tests may be shown."""
     lines = report.split("\n")[:-1]
-    if RULE not in lines:
+    if len(lines) < 4 or lines[-3] != RULE:
         return ["the report has no summary"]
-    rule = len(lines) - 1 - lines[::-1].index(RULE)
+    *above, found_numbers, _, found_summary, outcome = lines
+    rule = above.index(RULE) if RULE in above else len(above)
+    listed = above[rule + 1 :]
+    if rule < len(above) and not listed:
+        return ["the list has no lines"]
     by_default = not any(option(words, name, "") for name in LEVELS)
-    before = differing(without_why(expected_notes(run)), without_why(lines[:rule]), "lines before the summary")
+    before = differing(without_why(expected_notes(run)), without_why(above[:rule]), "lines before the list")
+    totals = run.totals(slow_from(words))
     return [
-        *(before + flaky_differences(run, lines[rule + 2 : -1]) if by_default else []),
-        *differing([summary(run.totals(slow_from(words)))], lines[rule + 1 : rule + 2], "summary"),
-        *list_differences(run, lines[rule + 2 : -1], words),
-        *differing([f"outcome {run.outcome()}"], lines[-1:], "outcome"),
+        *(before + flaky_differences(run, listed) if by_default else []),
+        *list_differences(run, listed, words),
+        *differing([numbers(totals, len(run.disagreements()))], [found_numbers], "numbers"),
+        *differing([summary(totals)], [found_summary], "summary"),
+        *differing([f"outcome {run.outcome()}"], [outcome], "outcome"),
     ]
 
 

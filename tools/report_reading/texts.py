@@ -6,8 +6,8 @@ ANYWHERE = "\x0b-\x1f\x7f-\x9f\u061c\u200e\u200f\u202a-\u202e\u2066-\u2069"
 HIDDEN_IN_NAMES = re.compile(f"[\x00-\x0a{ANYWHERE}]")
 HIDDEN_IN_TEXT = re.compile(f"[\x00-\x08{ANYWHERE}]")
 WHITE = "\t\x0b\x0c\r \x85\xa0\u1680\u2000-\u200a\u2028\u2029\u202f\u205f\u3000"
-COLON_AT_FRONT = re.compile(f"^([{WHITE}]*):", re.MULTILINE)
-HASH_OF_COMMAND = re.compile(r"#(?=#(?:vso|teamcity)?\[)")
+COLONS_AT_FRONT = re.compile(f"^([{WHITE}]*:):", re.MULTILINE)
+BRACKET_OF_COMMAND = re.compile(r"(##[A-Za-z]*)\[")
 NAME_LIMIT = 1024
 HEADS = {"failed": "FAIL", "timed out": "TIMEOUT", "crashed": "CRASH"}
 
@@ -18,13 +18,13 @@ def escaped(found):
 
 
 def without_commands(text):
-    """Returns a text with escapes for what begins a command of a CI system."""
-    return HASH_OF_COMMAND.sub(escaped, COLON_AT_FRONT.sub(r"\1\\u{3a}", text))
+    """Returns a text with escapes for what completes the beginning of a command of a CI system: a colon or a bracket."""
+    return BRACKET_OF_COMMAND.sub(r"\1\\u{5b}", COLONS_AT_FRONT.sub(r"\1\\u{3a}", text))
 
 
 def shown_line(text):
-    """Returns a text as reports show it in one line, with escapes for commands, control characters and bidirectional controls."""
-    return HIDDEN_IN_NAMES.sub(escaped, without_commands(text))
+    """Returns a text as reports show it in a line, with escapes for control characters and bidirectional controls."""
+    return HIDDEN_IN_NAMES.sub(escaped, text)
 
 
 def shown_name(name):
@@ -68,6 +68,24 @@ def summary(totals):
     )
 
 
+def numbers(totals, errors):
+    """Returns the line of the numbers of a run that are not 0, of which `errors` is that of its contradictions."""
+
+    def of(*parts):
+        words = ", ".join(f"{totals[name]} {word}" for name, word in parts if totals[name])
+        return f" ({words})" if words else ""
+
+    failed, passed = of(("timed_out", "timed out"), ("crashed", "crashed")), of(("flaky", "flaky"), ("slow", "slow"))
+    parts = [
+        (totals["failed"], f"failed{failed}"),
+        (errors, "error" if errors == 1 else "errors"),
+        (totals["not_run"], "not run"),
+        (totals["passed"], f"passed{passed}"),
+        (totals["skipped"], "skipped"),
+    ]
+    return ", ".join(f"{number} {words}" for number, words in parts if number) or "no test ran"
+
+
 def flaky_line(test):
     """Returns the line of a flaky test that passed, without the spaces at the front."""
     return f"FLAKY {test.attempts}/{test.attempts} {shown_time(test.time)}{names(test)}"
@@ -76,6 +94,7 @@ def flaky_line(test):
 def as_lines(run, no_tests):
     """Returns the results of a run as lines."""
     return [
+        numbers(run.totals(), len(run.disagreements())),
         summary(run.totals()),
         f"outcome {run.outcome()}",
         f"status {run.status(no_tests)}",

@@ -14,7 +14,11 @@ pub mod command;
 #[doc(hidden)]
 pub mod commands;
 #[doc(hidden)]
+pub mod earlier_run;
+#[doc(hidden)]
 pub mod interrupt;
+#[doc(hidden)]
+pub mod kept_run;
 #[doc(hidden)]
 pub mod lines;
 #[doc(hidden)]
@@ -45,6 +49,8 @@ pub mod report_templates;
     reason = "`ReportText::new` takes an allocator in the proved text, where there is no `Default` for it"
 )]
 pub mod report_text;
+#[doc(hidden)]
+pub mod run_again;
 #[doc(hidden)]
 pub mod run_digest_engine;
 #[doc(hidden)]

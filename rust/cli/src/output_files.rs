@@ -4,7 +4,7 @@
 use crate::interrupt::Interrupt;
 use crate::program::{BAD_ARGUMENT, Failure};
 use crate::replaced_file::ReplacedFile;
-use crate::report::{Document, FileTexts, Json};
+use crate::report::{Document, FailedNames, FileTexts, Json};
 use crate::same_file::{FileId, is_link, named_by_links, present};
 use clap::ArgMatches;
 use std::fmt;
@@ -22,6 +22,7 @@ enum FileOption {
     Html,
     Markdown,
     Json,
+    Names,
 
     /// The lines of the run, which are written as they come.
     Save,
@@ -29,11 +30,12 @@ enum FileOption {
 
 impl FileOption {
     /// All options, in the order in which their files are written.
-    const ALL: [FileOption; 5] = [
+    const ALL: [FileOption; 6] = [
         FileOption::Junit,
         FileOption::Html,
         FileOption::Markdown,
         FileOption::Json,
+        FileOption::Names,
         FileOption::Save,
     ];
 
@@ -44,6 +46,7 @@ impl FileOption {
             FileOption::Html => "html",
             FileOption::Markdown => "markdown",
             FileOption::Json => "json",
+            FileOption::Names => "names",
             FileOption::Save => "save",
         }
     }
@@ -52,7 +55,11 @@ impl FileOption {
     fn appends(self) -> bool {
         match self {
             FileOption::Markdown => true,
-            FileOption::Junit | FileOption::Html | FileOption::Json | FileOption::Save => false,
+            FileOption::Junit
+            | FileOption::Html
+            | FileOption::Json
+            | FileOption::Names
+            | FileOption::Save => false,
         }
     }
 
@@ -68,6 +75,7 @@ impl FileOption {
             FileOption::Html => texts.html.as_ref().map(Document::as_str),
             FileOption::Markdown => texts.markdown.as_ref().map(Document::as_str),
             FileOption::Json => texts.json.as_ref().map(Json::as_str),
+            FileOption::Names => texts.names.as_ref().map(FailedNames::as_str),
             FileOption::Save => None,
         }
     }

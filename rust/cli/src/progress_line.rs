@@ -85,7 +85,10 @@ impl<T: Write> ProgressLine<T> {
     /// Writes a message above the line.
     pub fn say(&mut self, message: &str) {
         self.hide();
-        self.write(&format!("{message}\n"));
+        let mut text = ReportText::new();
+        text.push(message);
+        text.push("\n");
+        self.write(text.as_str());
     }
 
     /// Writes a text to the terminal. If that fails, the text is missing and the report continues.

@@ -1,16 +1,21 @@
 //! The program `test-report`, which `cargo-test-report` is too.
 
 use crate::cargo_arguments::divided;
-use crate::command::prepared::prepare;
+use crate::command::cargo_colors::cargo_color;
+use crate::command::prepared::{Prepared, prepare};
 use crate::command::stand_in::stand_in;
 use crate::commands::{cargo_test_report, test_report};
+use crate::earlier_run::read_earlier_run;
 use crate::interrupt::Interrupt;
 use crate::output_files::{OutputFiles, STANDARD_INPUT, SavedRun, refuse_conflicts, refuse_save};
 use crate::program::{BAD_ARGUMENT, DEVICE_FAILED, Failure, KeepError, print_clap};
 use crate::progress_line::ProgressLine;
+use crate::report::comparison::EarlierRun;
 use crate::report::fault::Fault;
-use crate::report::options::{Options, OutputDisplay};
+use crate::report::options::{LIMIT, Options, OutputDisplay};
+use crate::report::screen::{Screen, is_dumb_terminal, is_set};
 use crate::report::{Ended, Files, Format, Report};
+use crate::run_again::RunAgain;
 use crate::run_input::{Input, PassOn, RunReader, Streams};
 use crate::standard_streams::{StandardOutput, check_output};
 use clap::{ArgMatches, Command};
@@ -29,14 +34,6 @@ const BEFORE_COMMAND: &str = "--";
 fn value<'a>(matches: &'a ArgMatches, name: &str) -> &'a str {
     matches.get_one::<String>(name).map_or("", String::as_str)
 }
-
-/// Returns true if a variable of the environment has a value that is not empty.
-fn is_set(variable: &str) -> bool {
-    env::var_os(variable).is_some_and(|value| !value.is_empty())
-}
-
-/// The default of `--limit`: how many bytes of the reason of a failure are shown.
-const LIMIT: usize = 4_096;
 
 /// The default of `--slow` in microseconds.
 const SLOW: u64 = 60_000_000;
@@ -70,8 +67,9 @@ fn options_of(matches: &ArgMatches) -> Result<Options, Failure> {
         color: match value(matches, "color") {
             "always" => true,
             "never" => false,
-            _ => io::stdout().is_terminal() && !is_set("NO_COLOR"),
+            _ => io::stdout().is_terminal() && !is_set("NO_COLOR") && !is_dumb_terminal(),
         },
+        screen: Screen::of_standard_output(),
         status_level: status_level_of(matches),
         final_status_level: final_status_level_of(matches),
         failure_output: display_of(matches, "failure-output"),
@@ -167,7 +165,7 @@ fn shows_progress(matches: &ArgMatches) -> bool {
     match value(matches, "progress") {
         "always" => true,
         "never" => false,
-        _ => io::stderr().is_terminal(),
+        _ => io::stderr().is_terminal() && !is_dumb_terminal(),
     }
 }
 
@@ -187,7 +185,14 @@ fn files_of(matches: &ArgMatches) -> Files {
         html: matches.contains_id("html"),
         markdown: matches.contains_id("markdown"),
         json: matches.contains_id("json"),
+        names: matches.contains_id("names"),
     }
+}
+
+/// Reads the earlier run that the arguments name, if they do.
+fn earlier_of(matches: &ArgMatches) -> Result<Option<EarlierRun>, Failure> {
+    let path = matches.get_one::<String>("compare");
+    path.map(|path| read_earlier_run(path)).transpose()
 }
 
 /// Makes the first Ctrl-C or SIGTERM not end the program.
@@ -203,11 +208,15 @@ fn write_report(
     matches: &ArgMatches,
     input: Input,
     (options, slow): (Options, u64),
+    earlier: Option<EarlierRun>,
     interrupt: &Interrupt,
     output_files: &OutputFiles,
 ) -> Result<ExitCode, Failure> {
     let (format, files) = (format_of(matches, options), files_of(matches));
-    let report = Report::new(options, format, files, slow, input.file_names());
+    let mut report = Report::new(options, format, files, slow, input.file_names());
+    if let Some(earlier) = earlier {
+        report.compare_with(earlier);
+    }
     let shows_progress = shows_progress(matches);
     let line = RefCell::new(ProgressLine::new(io::stderr()));
     let saved = output_files.saved_run(interrupt)?;
@@ -290,17 +299,27 @@ fn report_of(matches: &ArgMatches, input: Input) -> Result<ExitCode, Failure> {
     let shown = (options_of(matches)?, slow_of(matches)?);
     refuse_conflicts(matches, input.files())?;
     refuse_save(matches, input.why_unsaved())?;
+    let earlier = earlier_of(matches)?;
+    let again = RunAgain::of(matches);
+    again.refuse(input.why_not_again(again.only_failed))?;
     let interrupt = catch_first_interrupt()?;
     let files = OutputFiles::open(matches, &interrupt)?;
     check_output().map_err(|error| Failure::from(Fault::Write).caused_by(Some(error)))?;
-    write_report(matches, input, shown, &interrupt, &files)
+    write_report(matches, input, shown, earlier, &interrupt, &files)
+}
+
+/// Returns a command with what the arguments make of it.
+fn prepared(matches: &ArgMatches, words: &[OsString]) -> Prepared {
+    let mut prepared = prepare(words, cargo_color(value(matches, "color")));
+    prepared.run_again(RunAgain::of(matches));
+    prepared
 }
 
 /// Returns what `test-report` reads: the words after `--` are a command, and otherwise there are files.
 fn input_of(matches: &ArgMatches) -> Input {
     if let Some(words) = matches.get_many::<OsString>("command") {
         let words: Vec<_> = words.cloned().collect();
-        return Input::Command(Box::new(prepare(&words)));
+        return Input::Command(Box::new(prepared(matches, &words)));
     }
     match matches.get_many::<String>("file") {
         Some(files) if files.len() > 0 => Input::Files(files.cloned().collect()),
@@ -318,7 +337,7 @@ fn cargo_test(matches: &ArgMatches) -> Input {
         .flatten();
     let words = [cargo, "test".into()].into_iter().chain(words.cloned());
     let words: Vec<_> = words.collect();
-    Input::Command(Box::new(prepare(&words)))
+    Input::Command(Box::new(prepared(matches, &words)))
 }
 
 /// Returns the arguments without the first one, if it is the program's name as a subcommand: cargo starts

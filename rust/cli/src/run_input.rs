@@ -1,7 +1,9 @@
 //! Reads the files of a run, or what its command writes, and shows the progress meanwhile.
 
+use self::failed_list::FailedList;
 use crate::command::prepared::Prepared;
 use crate::interrupt::Interrupt;
+use crate::kept_run::KeptRun;
 use crate::lines::Lines;
 use crate::others::Others;
 use crate::output_files::{STANDARD_INPUT, SavedRun};
@@ -21,6 +23,7 @@ use std::path::Path;
 use std::time::{Duration, Instant};
 
 mod command;
+mod failed_list;
 mod stand_ins;
 
 /// The message after Ctrl-C, if the input stays open.
@@ -34,8 +37,25 @@ const FILES_UNSAVED: &str = "only the run of a command can be saved";
 const COMMAND_UNSAVED: &str = "the run of this command cannot be saved. That needs a `cargo test` or `cargo bench`, no \
                                RUSTC_BOOTSTRAP, and no setting that names a runner or a rustdoc";
 
+/// Why tests are not run again that are read from files or from a pipe.
+const FILES_NOT_AGAIN: &str = "there is no command whose tests can be run again";
+
+/// Why tests of a command without stand-ins are not run again.
+const COMMAND_NOT_AGAIN: &str = "single tests of this command cannot be run again. That needs a `cargo test` or `cargo \
+                                 bench`, no RUSTC_BOOTSTRAP, and no setting that names a runner or a rustdoc";
+
+/// Why tests of programs without known names are not run again.
+const NAMELESS_NOT_AGAIN: &str =
+    "cargo does not say which programs it has built if it has a `--message-format`";
+
+/// The folder of this program in cargo's target folder.
+const FOLDER: &str = "test-report";
+
 /// The name of a file that somebody has forgotten the `--` before.
 const CARGO: &str = "cargo";
+
+/// How long stand-ins have after Ctrl-C to write the failed tests that they hold back.
+const HELD: Duration = Duration::from_secs(1);
 
 /// What a run is read from.
 #[derive(Debug, PartialEq, Eq)]
@@ -62,6 +82,19 @@ impl Input {
             Input::Files(_) => Some(FILES_UNSAVED),
             Input::Command(prepared) if prepared.stand_in.is_none() => Some(COMMAND_UNSAVED),
             Input::Command(_) => None,
+        }
+    }
+
+    /// Returns why single tests of the run cannot be run again, or `None` if they can. `only_failed` is true if this depends on
+    /// the last run.
+    pub fn why_not_again(&self, only_failed: bool) -> Option<&'static str> {
+        match self {
+            Input::Files(_) => Some(FILES_NOT_AGAIN),
+            Input::Command(prepared) => match &prepared.stand_in {
+                None => Some(COMMAND_NOT_AGAIN),
+                Some(stand_in) if only_failed && !stand_in.has_names => Some(NAMELESS_NOT_AGAIN),
+                Some(_) => None,
+            },
         }
     }
 
@@ -152,9 +185,24 @@ pub struct RunReader<'a, 'line, W: Write> {
     /// Why the run is cancelled, as far as the report knows. It forgets this at the end of a file.
     cancelled: Option<CancelReason>,
 
+    /// True while stand-ins may hold failed tests back.
+    are_held: bool,
+
+    /// When it was first seen meanwhile that Ctrl-C has come.
+    interrupted: Option<Instant>,
+
     /// True if the line of progress is wanted.
     shows_progress: bool,
     starts: StartTimes,
+
+    /// When the command started that runs the tests.
+    started: Option<Instant>,
+
+    /// The run as it is kept for later, unless it is saved elsewhere or has no stand-ins.
+    kept: Option<KeptRun>,
+
+    /// The tests that failed last, once the programs of the run are known.
+    failed: Option<FailedList>,
 
     /// The message after Ctrl-C, until it was written. It is absent from the start if nobody would read it.
     message: Option<&'static str>,
@@ -181,8 +229,13 @@ impl<'a, 'line, W: Write> RunReader<'a, 'line, W> {
             pass_on,
             interrupt,
             cancelled: None,
+            are_held: false,
+            interrupted: None,
             shows_progress,
             starts: StartTimes::default(),
+            started: None,
+            kept: None,
+            failed: None,
             message: has_reader.then_some(STILL_READING),
         }
     }
@@ -287,12 +340,20 @@ impl<'a, 'line, W: Write> RunReader<'a, 'line, W> {
     /// report gets it, too. Returns the reason if the report did not know it.
     fn note_cancel(&mut self) -> Option<CancelReason> {
         let reason = self.interrupt.reason()?;
-        if self.cancelled == Some(reason) {
+        if self.cancelled == Some(reason)
+            || reason == CancelReason::Interrupt && self.waits_for_held()
+        {
             return None;
         }
         self.cancelled = Some(reason);
         self.report.cancel(reason);
         Some(reason)
+    }
+
+    /// Returns true for a moment after Ctrl-C, if stand-ins may hold failed tests back. Then they write these and, after
+    /// them, that Ctrl-C has come.
+    fn waits_for_held(&mut self) -> bool {
+        self.are_held && self.interrupted.get_or_insert_with(Instant::now).elapsed() < HELD
     }
 
     /// Writes the message after Ctrl-C, once.

@@ -2,7 +2,7 @@
 
 mod common;
 
-use common::{Folder, assert_output, run};
+use common::{Folder, assert_output, end_of_text, run};
 use std::path::Path;
 use std::process::Output;
 
@@ -13,11 +13,6 @@ const PASSED: &str = "\
 { \"type\": \"test\", \"name\": \"adds\", \"event\": \"ok\" }
 { \"type\": \"suite\", \"event\": \"ok\", \"passed\": 1, \"failed\": 0 }
 ";
-
-/// The report of that run.
-const REPORT: &str = "------------\n     \
-    Summary 1 tests run: 1 passed (0 flaky), 0 failed (0 timed out, 0 crashed), 0 skipped, 0 not run\n\
-    outcome success\n";
 
 /// What `run-digest` writes to standard error if an argument is invalid.
 const USAGE: &str = "usage: run-digest extract|count\n";
@@ -85,12 +80,11 @@ fn test_report_refuses_numbers() {
 
 #[test]
 fn test_report_takes_arguments() {
-    let taken: [&[&str]; 15] = [
+    let taken: [&[&str]; 14] = [
         &[],
         &["--format", "text"],
         &["--format=text", "--color=never", "--no-tests=fail"],
         &["--color", "auto"],
-        &["--color", "always"],
         &["--no-tests", "pass"],
         &["--progress", "auto"],
         &["--progress=never"],
@@ -102,15 +96,13 @@ fn test_report_takes_arguments() {
         &["--limit", "none"],
         &["--slow", "0.5"],
     ];
+    let summary =
+        "1 tests run: 1 passed (0 flaky), 0 failed (0 timed out, 0 crashed), 0 skipped, 0 not run";
+    let report = end_of_text("", "1 passed", summary, "success");
     for arguments in taken {
         let output = run("test-report", arguments, PASSED.as_bytes());
-        assert_output(
-            &output,
-            REPORT.as_bytes(),
-            b"",
-            0,
-            &format!("{arguments:?}"),
-        );
+        let what = format!("{arguments:?}");
+        assert_output(&output, report.as_bytes(), b"", 0, &what);
     }
 }
 
@@ -136,12 +128,11 @@ fn test_report_reads_several_files() {
 fn test_report_without_tests() {
     let lines = "{\"type\":\"suite\",\"event\":\"started\",\"test_count\":0}\n\
         {\"type\":\"suite\",\"event\":\"ok\",\"passed\":0,\"failed\":0}\n";
+    let summary =
+        "0 tests run: 0 passed (0 flaky), 0 failed (0 timed out, 0 crashed), 0 skipped, 0 not run";
+    let report = end_of_text("", "no test ran", summary, "no-tests-run");
     for (action, status) in [("fail", 1), ("pass", 0)] {
         let output = run("test-report", &["--no-tests", action], lines.as_bytes());
-        let report = REPORT
-            .replace("1 tests", "0 tests")
-            .replace("1 passed", "0 passed")
-            .replace("success", "no-tests-run");
         assert_output(&output, report.as_bytes(), b"", status, action);
     }
 }
@@ -191,31 +182,139 @@ fn arguments_that_are_not_utf8_are_refused() {
     assert_output(&output, b"", message, 2, "test-report");
 }
 
+/// Each option that `test-report --help` shows, with its value, in order.
+const OPTIONS: [&str; 27] = [
+    "--failed",
+    "--retries <N>",
+    "--compare <FILE>",
+    "--format <FORM>",
+    "--junit <FILE>",
+    "--html <FILE>",
+    "--markdown <FILE>",
+    "--json <FILE>",
+    "--output <HOW>",
+    "--status-level <LEVEL>",
+    "-h, --help",
+    "-V, --version",
+    "--retries-max <N>",
+    "--no-tests <ACTION>",
+    "--names <FILE>",
+    "--save <FILE>",
+    "--final-status-level <LEVEL>",
+    "--failure-output <WHEN>",
+    "--success-output <WHEN>",
+    "--slow <SECONDS>",
+    "--slowest <N>",
+    "--limit <BYTES>",
+    "--raw",
+    "--color <WHEN>",
+    "--progress <WHEN>",
+    "--others <WHEN>",
+    "--annotations <WHEN>",
+];
+
+/// Returns the lines of a help, and asserts that none has more than these columns.
+fn help_of(program: &str, flag: &str, columns: usize) -> Vec<String> {
+    let output = run(program, &[flag], b"");
+    let lines: Vec<_> = stdout_of(&output).lines().map(str::to_owned).collect();
+    let too_long: Vec<_> = lines.iter().filter(|line| line.len() > columns).collect();
+    assert!(too_long.is_empty(), "{program} {flag}: {too_long:?}");
+    lines
+}
+
+/// Returns the lines that begin with an option, without the space before it. The lines of its text have more.
+fn options_of(lines: &[String]) -> Vec<&str> {
+    let is_option = |line: &&String| line.starts_with("      --") || line.starts_with("  -");
+    lines
+        .iter()
+        .filter(is_option)
+        .map(|line| line.trim_start())
+        .collect()
+}
+
 #[test]
-fn help_names_all_arguments() {
-    for flag in ["--help", "-h"] {
-        let output = run("test-report", &[flag], b"");
-        let help = stdout_of(&output);
-        for part in [
-            "Usage: test-report [OPTIONS] [FILE]...",
-            "--format <FORM>",
-            "text, github, names, junit, html, markdown, json",
-            "--junit <FILE>",
-            "--html <FILE>",
-            "--markdown <FILE>",
-            "--json <FILE>",
-            "--no-tests <ACTION>",
-            "--color <WHEN>",
-            "--progress <WHEN>",
-            "--limit <BYTES>",
-            "4096",
-            "--raw",
-            "Exit status:",
-        ] {
-            assert!(help.contains(part), "{part} is not in {help}");
+fn the_short_help_is_one_screen_with_the_first_ten_options() {
+    for program in ["test-report", "cargo-test-report"] {
+        let lines = help_of(program, "-h", 80);
+        assert!(lines.len() <= 20, "{program}: {lines:?}");
+        let options = options_of(&lines);
+        assert_eq!(options.len(), 12, "{program}: {options:?}");
+        for (line, option) in options.iter().zip(OPTIONS) {
+            let text = line.strip_prefix(option).expect(line);
+            assert!(text.starts_with("  ") && text.trim().len() > 10, "{line}");
         }
-        let output = run("run-digest", &[flag], b"");
-        let help = stdout_of(&output);
+    }
+}
+
+#[test]
+fn the_long_help_has_each_option_once_and_no_long_line() {
+    for program in ["test-report", "cargo-test-report"] {
+        let lines = help_of(program, "--help", 100);
+        assert_eq!(options_of(&lines), OPTIONS, "{program}");
+        assert!(lines.iter().any(|line| line == "Examples:"), "{program}");
+        let statuses = lines.iter().position(|line| line == "Exit status:");
+        let statuses = &lines[statuses.expect("the statuses are there")..];
+        for status in 0..4 {
+            let start = format!("  {status}  ");
+            assert!(
+                statuses.iter().any(|line| line.starts_with(&start)),
+                "{program}: {status}"
+            );
+        }
+    }
+}
+
+#[test]
+fn the_long_help_names_each_value() {
+    let lines = help_of("test-report", "--help", 100);
+    let help = lines.join(" ");
+    let text_of = |option: &str| {
+        let (_, after) = help.split_once(option).expect(option);
+        after
+            .split("       --")
+            .next()
+            .unwrap_or_default()
+            .to_owned()
+    };
+    for (option, values) in [
+        (
+            "--format <FORM>",
+            "text github names junit html markdown json",
+        ),
+        ("--output <HOW>", "auto short whole"),
+        (
+            "--status-level <LEVEL>",
+            "none fail retry slow leak pass skip all",
+        ),
+        (
+            "--final-status-level <LEVEL>",
+            "none fail flaky retry slow skip leak pass all",
+        ),
+        (
+            "--failure-output <WHEN>",
+            "immediate final immediate-final never",
+        ),
+        ("--no-tests <ACTION>", "fail pass"),
+        ("--color <WHEN>", "auto always never"),
+        ("--progress <WHEN>", "auto always never"),
+        ("--others <WHEN>", "auto always never"),
+        ("--annotations <WHEN>", "auto github always never"),
+        ("--limit <BYTES>", "none 4096"),
+    ] {
+        let text = text_of(option);
+        let words: Vec<_> = text
+            .split(|c: char| !c.is_alphanumeric() && c != '-')
+            .collect();
+        for value in values.split(' ') {
+            assert!(words.contains(&value), "{option}: {value} is not in {text}");
+        }
+    }
+}
+
+#[test]
+fn the_help_of_run_digest_names_its_commands() {
+    for flag in ["--help", "-h"] {
+        let help = help_of("run-digest", flag, 100).join("\n");
         for part in ["Usage: run-digest [COMMAND]", "count", "extract"] {
             assert!(help.contains(part), "{part} is not in {help}");
         }

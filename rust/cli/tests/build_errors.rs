@@ -295,7 +295,7 @@ fn on_a_terminal_errors_have_colours_and_the_report_does_not_repeat_them() {
     assert_counts(&text, &[(coloured, 1)]);
     let compiling = "\u{1b}[1m\u{1b}[92m   Compiling\u{1b}[0m tracker v0.1.0";
     assert_counts(&text, &[(compiling, 1)]);
-    let end = "could not compile tracker (lib test): 2 errors\noutcome failed\n";
+    let end = "could not compile tracker (lib test): 2 errors\n";
     assert!(text.ends_with(end), "{text}");
     assert_counts(
         &plain(&text),
@@ -324,10 +324,7 @@ fn on_a_terminal_cargos_own_error_is_above_the_report() {
         text.starts_with("error: could not find `Cargo.toml` in `"),
         "{text}"
     );
-    assert!(
-        text.ends_with("\ncargo ended with status 101\noutcome failed\n"),
-        "{text}"
-    );
+    assert!(text.ends_with("\ncargo ended with status 101\n"), "{text}");
 }
 
 #[test]

@@ -265,7 +265,7 @@ exit 101";
         let shown = on_terminal(&folder, terminal, build);
         let wanted = format!(
             "{erased}unused\nBuilding\n{erased}other\n{erased}wrong\nerror: no\n\
-             could not compile money (lib): 1 error\noutcome failed\n"
+             could not compile money (lib): 1 error\n"
         );
         assert_eq!(shown, wanted);
     }

@@ -1,10 +1,10 @@
 //! What is reported of a build that failed, given what cargo 1.95 wrote about it. The samples are whole outputs of
 //! `cargo test --no-run --message-format json`, with another folder and without the explanations of codes.
 
-use deodarsieve::{FinalStatusLevel, StatusLevel, TestOutputDisplay};
+use deodarsieve::FinalStatusLevel;
 use deodarsieve_cli::cargo_message::CargoMessage;
 use deodarsieve_cli::report::build::{CompilerMessages, FailedBuild};
-use deodarsieve_cli::report::options::{Options, OutputDisplay};
+use deodarsieve_cli::report::options::Options;
 use deodarsieve_cli::report::{Files, Format, Report};
 use deodarsieve_run::{CommandEnd, SuiteNames};
 use serde_json::Value;
@@ -27,17 +27,8 @@ const VAULT: &str = include_str!("samples/cargo-messages/vault.jsonl");
 
 /// The options of a report.
 const OPTIONS: Options = Options {
-    limit: 4_096,
-    output: OutputDisplay::Auto,
-    raw: false,
-    color: false,
-    status_level: StatusLevel::Fail,
     final_status_level: FinalStatusLevel::Fail,
-    failure_output: TestOutputDisplay::Immediate,
-    success_output: TestOutputDisplay::Never,
-    passed_limit: usize::MAX,
-    slowest: 0,
-    no_tests_pass: false,
+    ..Options::DEFAULT
 };
 
 /// Returns the messages in an output of cargo.
@@ -361,7 +352,7 @@ fn pages_and_summaries_have_each_error() {
     assert!(page.contains(item), "{page}");
     assert_eq!(page.matches("<li>").count(), 3, "{page}");
     let summary = report(TRACKER, Format::Markdown);
-    let item = "- src&#47;lib&#46;rs&#58;7&#58;5&#58; error&#91;E0308&#93;&#58; mismatched types\n\n<pre>\nerror[E0308]: mismatched types\n";
+    let item = "- src/lib.rs:7:5: error&#91;E0308&#93;: mismatched types\n\n<pre>\nerror[E0308]: mismatched types\n";
     assert!(summary.contains(item), "{summary}");
     assert_eq!(summary.matches("\n- ").count(), 3, "{summary}");
 }
@@ -511,6 +502,7 @@ fn a_failed_build_of_one_file_leaves_the_report_of_the_others() {
     let wanted = "\
 could not compile booth (test \"it\"): 1 error
     tests/it.rs:3:12: error[E0425]: cannot find function `g` in crate `booth`
+1 passed
 ------------
      Summary 1 tests run: 1 passed (0 flaky), 0 failed (0 timed out, 0 crashed), 0 skipped, 0 not run
 outcome failed

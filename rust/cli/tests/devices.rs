@@ -2,7 +2,7 @@
 
 mod common;
 
-use common::{assert_output, command, path_of, run};
+use common::{assert_output, command, end_of_text, path_of, run};
 use deodarsieve_cli::program::{KeepError, run_engine};
 use deodarsieve_cli::run_digest_engine::count::count;
 use std::io::{self, ErrorKind, Read, Write};
@@ -130,11 +130,16 @@ fn input_that_is_not_utf8() {
     assert_output(&output, found, b"", 0, "extract");
     let lines = b"\xff\xfe\n{ \"type\": \"te\xffst\" }\n";
     let output = run("test-report", &["-"], lines);
-    let report = "no line of the input is of a test run\n\
+    let notes = "no line of the input is of a test run\n\
     \x20   cargo test writes such lines with: RUSTC_BOOTSTRAP=1 cargo test -- -Z unstable-options --format json\n\
-    \x20   test-report -- cargo test does this by itself\n------------\n     \
-        Summary 0 tests run: 0 passed (0 flaky), 0 failed (0 timed out, 0 crashed), 0 skipped, 0 not run\n       \
-        ERROR no line of the input is of a test run\noutcome failed\n";
+    \x20   test-report -- cargo test does this by itself\n";
+    let end = end_of_text(
+        "       ERROR no line of the input is of a test run\n",
+        "1 error",
+        "0 tests run: 0 passed (0 flaky), 0 failed (0 timed out, 0 crashed), 0 skipped, 0 not run",
+        "failed",
+    );
+    let report = [notes, &end].concat();
     assert_output(&output, report.as_bytes(), lines, 1, "test-report");
 }
 

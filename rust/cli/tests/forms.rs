@@ -13,7 +13,7 @@ const RUN: &str = r#"
 { "type": "test", "name": "adds", "event": "ok", "exec_time": 0.25 }
 { "type": "test", "name": "waits", "event": "ignored" }
 { "type": "test", "event": "started", "name": "a|b <c>" }
-{ "type": "test", "name": "a|b <c>", "event": "failed", "stdout": "Error: \"x\" & </pre>\u001b[1m\uffff\r\nand *more*\n" }
+{ "type": "test", "name": "a|b <c>", "event": "failed", "stdout": "Error: \"x\" & </pre>\u001b[1m\u001b[K\uffff\r\nand *more*\n" }
 { "type": "suite", "event": "failed", "passed": 1, "failed": 1, "ignored": 1, "measured": 0, "exec_time": 0.5 }
 { "type": "suite", "event": "started", "test_count": 1 }
 { "type": "test", "event": "started", "name": "ends" }
@@ -28,9 +28,9 @@ const JUNIT: &str = r#"<?xml version="1.0" encoding="UTF-8"?>
 <skipped/>
 </testcase>
 <testcase name="a|b &lt;c&gt;" classname="suite 1">
-<failure message="Error: &quot;x&quot; &amp; &lt;/pre&gt;\u{1b}[1m&#xFFFD;" type="test failure">Error: "x" &amp; &lt;/pre&gt;\u{1b}[1m&#xFFFD;
+<failure message="Error: &quot;x&quot; &amp; &lt;/pre&gt;\u{1b}[K&#xFFFD;" type="test failure">Error: "x" &amp; &lt;/pre&gt;\u{1b}[K&#xFFFD;
 and *more*</failure>
-<system-out>Error: "x" &amp; &lt;/pre&gt;\u{1b}[1m&#xFFFD;
+<system-out>Error: "x" &amp; &lt;/pre&gt;\u{1b}[K&#xFFFD;
 and *more*
 </system-out>
 </testcase>
@@ -51,17 +51,17 @@ const MARKDOWN: &str = r#"## Test report: failed
 
 3 tests run: 1 passed (0 flaky), 2 failed (0 timed out, 1 crashed), 1 skipped, 1 not run, in 0&#46;500s
 
-- suite 1&#58; 1 of 3 tests were not run
+- suite 1: 1 of 3 tests were not run
 
 | Result | Test | Time | Why |
 | --- | --- | ---: | --- |
-| FAIL | suite 1 a&#124;b &#60;c&#62; |  | Error&#58; &#34;x&#34; &#38; &#60;&#47;pre&#62;&#92;u&#123;1b&#125;&#91;1m&#xFFFD; |
+| FAIL | suite 1 a&#124;b &#60;c&#62; |  | Error: "x" &#38; &#60;&#47;pre&#62;&#92;u&#123;1b&#125;&#91;K&#xFFFD; |
 | CRASH | suite 2 ends |  | its process ended before it did |
 
 <details><summary>FAIL suite 1 a&#124;b &#60;c&#62;</summary>
 
 <pre>
-Error: "x" &amp; &lt;/pre&gt;\u{1b}[1m&#xFFFD;
+Error: "x" &amp; &lt;/pre&gt;\u{1b}[K&#xFFFD;
 and *more*</pre>
 
 </details>
@@ -135,12 +135,18 @@ const UNCAPTURED: &str = include_str!("samples/test-report/uncaptured.jsonl");
 
 #[test]
 fn each_form_has_the_panic_of_a_test_whose_output_was_not_captured() {
-    let short = "tests::gives_no_credit: panicked at src/lib.rs:5:29: the price is paid\n";
+    let listed = "\
+        FAIL 2 tests: src/lib.rs:5:29: the price is paid
+             shop (tests/shop.rs) gives_no_credit
+             till (unittests src/lib.rs) tests::gives_no_credit
+";
     let forms = [
-        ("text", "\n    the price is paid\n", short),
+        ("text", "\n    the price is paid\n", listed),
         (
             "github",
-            "::error file=src/lib.rs,line=5,col=29,title=till (unittests src/lib.rs) tests%3A%3Agives_no_credit::",
+            "::error file=src/lib.rs,line=5,col=29,title=2 tests%3A src/lib.rs%3A5%3A29%3A the price is paid::\
+             2 tests: src/lib.rs:5:29: the price is paid%0Atill (unittests src/lib.rs) tests::gives_no_credit%0A\
+             shop (tests/shop.rs) gives_no_credit%0Athread 'tests::gives_no_credit' ",
             "%0Athe price is paid\n",
         ),
         (
@@ -168,25 +174,42 @@ fn each_form_has_the_panic_of_a_test_whose_output_was_not_captured() {
     }
 }
 
-/// Returns a run in which tests fail, each with this output.
-fn run_with_output(tests: usize, output: &str) -> String {
-    let start = r#"{ "type": "test", "event": "started", "name": "a" }"#;
-    let end = format!(
-        r#"{{ "type": "test", "event": "failed", "name": "a", "stdout": "{}" }}"#,
-        output.replace('\n', "\\n")
-    );
+/// Returns a run in which a test fails for each output, and has it.
+fn run_with_outputs(outputs: impl IntoIterator<Item = String>) -> String {
+    let tests: Vec<_> = outputs
+        .into_iter()
+        .map(|output| {
+            let output = output.replace('\n', "\\n");
+            format!(
+                r#"{{ "type": "test", "event": "started", "name": "a" }}
+{{ "type": "test", "event": "failed", "name": "a", "stdout": "{output}" }}
+"#
+            )
+        })
+        .collect();
+    let count = tests.len();
     format!(
-        r#"{{ "type": "suite", "event": "started", "test_count": {tests} }}
-{}{{ "type": "suite", "event": "failed", "passed": 0, "failed": {tests} }}
+        r#"{{ "type": "suite", "event": "started", "test_count": {count} }}
+{}{{ "type": "suite", "event": "failed", "passed": 0, "failed": {count} }}
 "#,
-        format!("{start}\n{end}\n").repeat(tests)
+        tests.concat()
     )
+}
+
+/// Returns a run in which tests fail for several reasons, each with this output after a line of its own.
+fn run_with_reasons(tests: usize, output: &str) -> String {
+    run_with_outputs((0..tests).map(|test| format!("Error: reason {test}\n{output}")))
+}
+
+/// Returns a run in which a test fails with this output.
+fn run_with_output(output: &str) -> String {
+    run_with_outputs([output.to_string()])
 }
 
 #[test]
 fn whole_outputs_have_a_limit() {
     // 110,000 lines of 11 bytes. The last line feed is left out.
-    let lines = run_with_output(1, &"<234567890\n".repeat(110_000));
+    let lines = run_with_output(&"<234567890\n".repeat(110_000));
     for (form, before) in [("html", 161_425), ("markdown", 1_193_621)] {
         let text = report(&["--format", form], &lines, 1);
         let expected = format!("({before} bytes before this)\n&lt;234567890\n");
@@ -194,7 +217,7 @@ fn whole_outputs_have_a_limit() {
         assert!(text.contains(&expected), "{form}");
     }
     // A character has two bytes, and the last byte is one of its own.
-    let line = run_with_output(1, &format!("{}x", "é".repeat(600_000)));
+    let line = run_with_output(&format!("{}x", "é".repeat(600_000)));
     for (form, before) in [("html", 151_426), ("markdown", 1_183_618)] {
         let text = report(&["--format", form], &line, 1);
         let expected = format!("({before} bytes before this)\né");
@@ -206,7 +229,7 @@ fn whole_outputs_have_a_limit() {
 #[test]
 fn whole_outputs_of_a_page_have_a_limit_together() {
     // Each is shown as 1,048,601 bytes, and as 1,334,576 bytes between tags.
-    let lines = run_with_output(18, &"<234567890\n".repeat(110_000));
+    let lines = run_with_reasons(18, &"<234567890\n".repeat(110_000));
     let page = report(&["--format", "html"], &lines, 1);
     assert_eq!(page.matches("<summary>output, ").count(), 13);
     assert_eq!(page.matches("<span>a</span>").count(), 18);
@@ -218,7 +241,7 @@ const GITHUB: usize = 1_048_576;
 /// Returns the number before the words `more WHAT` in a summary, or 0 if it does not have them.
 fn more(summary: &str, what: &str) -> usize {
     let words = format!(" more {what}: a summary on GitHub holds 1 MiB");
-    let text = summary.replace("&#40;", "(").replace("&#58;", ":");
+    let text = summary.replace("&#40;", "(");
     text.split_once(&words).map_or(0, |(before, _)| {
         let number = before.rsplit('(').next().expect("there is a bracket");
         number.parse().expect("it is a number")
@@ -235,7 +258,7 @@ fn damaged() -> String {
 
 #[test]
 fn many_problems_leave_room_in_a_summary_for_failed_tests() {
-    let tests = run_with_output(1_000, &"said\n".repeat(400));
+    let tests = run_with_reasons(1_000, &"said\n".repeat(400));
     let lines = [damaged().repeat(10_000), tests].concat();
     let summary = report(&["--format", "markdown"], &lines, 1);
     assert!(summary.len() < GITHUB, "{}", summary.len());
@@ -251,7 +274,7 @@ fn many_problems_leave_room_in_a_summary_for_failed_tests() {
 
 #[test]
 fn few_problems_and_failed_tests_are_all_in_a_summary() {
-    let tests = run_with_output(100, "said\n");
+    let tests = run_with_reasons(100, "said\n");
     let lines = [damaged().repeat(100), tests].concat();
     let summary = report(&["--format", "markdown"], &lines, 1);
     assert_eq!(summary.matches("\n- a damaged line says ").count(), 100);
@@ -261,18 +284,15 @@ fn few_problems_and_failed_tests_are_all_in_a_summary() {
 
 #[test]
 fn a_reason_in_a_summary_is_cut_and_the_end_of_its_output_follows() {
-    let lines = run_with_output(
-        2,
-        &format!("first\n{}last\n", "<234567890\n".repeat(40_000)),
-    );
+    let lines = run_with_output(&format!("first\n{}last\n", "<234567890\n".repeat(40_000)));
     // Half of 16,384 bytes has 745 lines, at the front and at the end. Without `--output whole` it is ten lines.
     for (options, first, left_out, lasts) in [
-        (["--output", "whole"], "first\n", "\n(38512 lines)\n", 4),
+        (["--output", "whole"], "first\n", "\n(38512 lines)\n", 2),
         (
             ["--limit", "none"],
             "<234567890\n",
             "\nlast\n(39992 more lines of output)</pre>",
-            2,
+            1,
         ),
     ] {
         let summary = report(
@@ -283,19 +303,19 @@ fn a_reason_in_a_summary_is_cut_and_the_end_of_its_output_follows() {
         assert!(summary.len() < GITHUB, "{}", summary.len());
         let first = first.replace('<', "&lt;");
         let reason = format!("<details><summary>FAIL suite 1 a</summary>\n\n<pre>\n{first}");
-        assert_eq!(summary.matches(&reason).count(), 2, "{options:?}");
-        assert_eq!(summary.matches(left_out).count(), 2, "{options:?}");
+        assert_eq!(summary.matches(&reason).count(), 1, "{options:?}");
+        assert_eq!(summary.matches(left_out).count(), 1, "{options:?}");
         assert_eq!(
             summary
                 .matches("<summary>output, 40002 lines</summary>")
                 .count(),
-            2
+            1
         );
         assert_eq!(summary.matches("\nlast</pre>").count(), lasts);
         let page = report(&[&["--format", "html"][..], &options].concat(), &lines, 1);
         assert!(!page.contains(" lines)\n"), "{options:?}");
     }
-    let at_most = run_with_output(1, &"1234567\n".repeat(2_048));
+    let at_most = run_with_output(&"1234567\n".repeat(2_048));
     let summary = report(&["--format", "markdown", "--output", "whole"], &at_most, 1);
     assert!(!summary.contains(" lines)\n") && !summary.contains("<summary>output"));
 }
@@ -327,7 +347,7 @@ fn the_first_problem_and_the_first_failed_test_are_in_each_summary() {
         .concat();
         let summary = report(&arguments, &lines, 1);
         assert!(summary.len() < GITHUB, "{}", summary.len());
-        assert!(summary.contains("\n- cargo&#58; error&#58; could not compile "));
+        assert!(summary.contains("\n- cargo: error: could not compile "));
         // The last of these lines counts those that are left out.
         let problems = summary.matches("\n- ").count() - 1;
         assert_eq!(problems + more(&summary, "problems"), 10_002);
@@ -339,9 +359,9 @@ fn the_first_problem_and_the_first_failed_test_are_in_each_summary() {
 #[test]
 fn an_output_that_the_reason_shows_is_shown_once() {
     for form in ["html", "markdown"] {
-        let text = report(&["--format", form], &run_with_output(1, "said\n"), 1);
+        let text = report(&["--format", form], &run_with_output("said\n"), 1);
         assert!(!text.contains("<summary>output"), "{form}");
-        let cut = run_with_output(1, "first\nError: x\n");
+        let cut = run_with_output("first\nError: x\n");
         let text = report(&["--format", form, "--output", "short"], &cut, 1);
         assert!(
             text.contains("<summary>output, 2 lines</summary>"),
@@ -362,9 +382,11 @@ fn html_loads_nothing() {
     assert!(page.contains("<h1>Test report: <span class=\"word failed\">failed</span></h1>"));
     assert!(page.contains("<li>suite 1: 1 of 3 tests were not run</li>"));
     assert!(page.contains("<span>a|b &lt;c&gt;</span>"));
-    assert!(
-        page.contains("Error: \"x\" &amp; &lt;/pre&gt;\\u{1b}[1m\u{fffd}\nand *more*</code></pre>")
-    );
+    let bold = |text: &str| format!("<span class=\"b\">{text}</span>");
+    let (one, two) = (bold("\\u{1b}[K\u{fffd}"), bold("and *more*"));
+    assert!(page.contains(&format!(
+        "Error: \"x\" &amp; &lt;/pre&gt;{one}\n{two}</code></pre>"
+    )));
     for absent in [
         "<script", "<link", "<img", "src=", "href=", "url(", "@import", "http:", "https:",
     ] {
@@ -389,7 +411,9 @@ fn html_of_empty_names() {
 ";
     let page = report(&["--format", "html"], run, 1);
     assert!(
-        page.contains("<span class=\"suite\">suite 1</span> <span></span></h3>"),
+        page.contains(
+            "<span class=\"suite\">suite 1</span> <span></span></h3> <span class=\"short\">"
+        ),
         "{page}"
     );
 }

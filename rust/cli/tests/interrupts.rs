@@ -3,7 +3,7 @@
 
 mod common;
 
-use common::{Folder, Running, command, read_until, soon, start, started, wait_for};
+use common::{Folder, Running, command, end_of_text, read_until, soon, start, started, wait_for};
 use std::fs::{self, OpenOptions};
 use std::io::{self, Read, Write};
 use std::os::unix::process::ExitStatusExt;
@@ -32,17 +32,13 @@ fn report_after(signal: &str) -> String {
             "        FAIL suite 1 pays: Error: no money\n",
         ),
     };
-    format!(
-        "\
-FAIL suite 1 adds
-    Error: no such currency
-FAIL suite 1 pays
-{why}------------
-     Summary 2 tests run: 0 passed (0 flaky), 2 failed (0 timed out, 0 crashed), 0 skipped, 0 not run
-        FAIL suite 1 adds: Error: no such currency
-{listed}outcome failed
-"
-    )
+    let end = end_of_text(
+        &format!("        FAIL suite 1 adds: Error: no such currency\n{listed}"),
+        "2 failed",
+        "2 tests run: 0 passed (0 flaky), 2 failed (0 timed out, 0 crashed), 0 skipped, 0 not run",
+        "failed",
+    );
+    format!("FAIL suite 1 adds\n    Error: no such currency\nFAIL suite 1 pays\n{why}{end}")
 }
 
 /// The end of the line that says what the program waits for.
@@ -243,6 +239,19 @@ printf '%s\n' "$LATER"
 exit 101
 "#;
 
+/// Asserts the report of a command after a signal, with the time of the command by the clock.
+fn assert_report_of_command(report: &str, signal: &str) {
+    let (before, after) = report.split_once("2 failed in ").expect("it has a time");
+    let (time, after) = after.split_once(" s\n").expect("the time is in seconds");
+    assert_eq!(format!("{before}2 failed\n{after}"), report_after(signal));
+    let (seconds, tenth) = time.split_once('.').expect("it has a part of a second");
+    assert!(
+        seconds.parse::<u8>().is_ok_and(|seconds| seconds < 60),
+        "{time}"
+    );
+    assert!(tenth.len() == 1 && tenth.parse::<u8>().is_ok(), "{time}");
+}
+
 /// Starts `test-report` with a command that waits until a file is there.
 fn start_with_command(folder: &str) -> Running {
     start_with(&["--progress", "always"], folder)
@@ -268,7 +277,7 @@ fn the_first_interrupt_leaves_the_command_alone() {
     let stderr = wait_for(running.stderr, STILL_READING);
     fs::write(folder.file("go"), "").expect("the folder is there");
     let (rest, _) = read_until(stdout, "outcome failed\n");
-    assert_eq!([first, rest].concat(), report_after("INT"));
+    assert_report_of_command(&[first, rest].concat(), "INT");
     assert_eq!(end_of(running.child).code(), Some(1));
     drop((running.stdin, stderr));
 }
@@ -280,7 +289,7 @@ fn the_first_sigterm_is_sent_on_to_the_command() {
     let (first, stdout) = read_until(running.stdout, "    Error: no such currency\n");
     send("TERM", &running.child);
     let (rest, _) = read_until(stdout, "outcome failed\n");
-    assert_eq!([first, rest].concat(), report_after("TERM"));
+    assert_report_of_command(&[first, rest].concat(), "TERM");
     assert_eq!(end_of(running.child).code(), Some(1));
     drop((running.stdin, running.stderr));
 }

@@ -3,6 +3,7 @@
 mod common;
 
 use common::run;
+use deodarsieve_cli::report_text::ReportText;
 use serde_json::Value;
 use std::fs;
 use std::path::{Path, PathBuf};
@@ -92,9 +93,11 @@ fn reports_in_json_have_the_numbers_of_the_text() {
             format!("outcome {outcome}")
         );
         for problem in list(&found, "problems") {
-            let line = problem["line"].as_str().expect("the line is a text");
+            let mut line = ReportText::new();
+            line.push_line(problem["line"].as_str().expect("the line is a text"));
+            let line = line.finish();
             assert!(
-                outcome == "no-tests-run" || lines.contains(&line),
+                outcome == "no-tests-run" || lines.contains(&line.as_str()),
                 "{name}: {line}"
             );
         }

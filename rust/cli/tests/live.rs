@@ -45,18 +45,19 @@ const NOT_RETRIED: &str = r#"{"type":"test","event":"ok","name":"ledger::pays$te
 #[test]
 fn a_failure_is_written_while_the_input_is_open() {
     let cases = [
-        ("text", "FAIL suite 1 adds\n"),
+        ("text", FAILED, "FAIL suite 1 adds\n"),
         (
             "github",
-            "::error title=suite 1 adds::suite 1 adds%0AError: no such currency\n",
+            ENDED,
+            "::error::a suite ended that had not started: failed\n",
         ),
-        ("names", "adds\n"),
+        ("names", FAILED, "adds\n"),
     ];
-    for (form, wanted) in cases {
+    for (form, lines, wanted) in cases {
         let mut running = start(&["--format", form]);
         running
             .stdin
-            .write_all(FAILED.as_bytes())
+            .write_all(lines.as_bytes())
             .expect("the program reads");
         let (line, mut pipe) = read_until(running.stdout, "\n");
         assert_eq!(line, wanted);
@@ -74,11 +75,15 @@ fn a_reader_that_stops_early_ends_the_program_quietly() {
         let mut running = start(&["--format", form]);
         running
             .stdin
-            .write_all(FAILED.as_bytes())
+            .write_all([FAILED, ENDED].concat().as_bytes())
             .expect("the program reads");
         drop(wait_for(running.stdout, "\n"));
         // The write of the next failure fails, and then nobody reads this pipe.
-        while running.stdin.write_all(FAILED.as_bytes()).is_ok() {}
+        while running
+            .stdin
+            .write_all([FAILED, ENDED].concat().as_bytes())
+            .is_ok()
+        {}
         drop(running.stdin);
         let mut message = String::new();
         running

@@ -1,4 +1,4 @@
-//! The files of `--junit`, `--html`, `--markdown` and `--json`: how they are tried before anything runs, which permissions
+//! The files of `--junit`, `--html`, `--markdown`, `--json` and `--names`: how they are tried before anything runs, which permissions
 //! they get, and that no temporary file stays.
 #![cfg(unix)]
 
@@ -21,10 +21,10 @@ const RUN: &str = r#"{ "type": "suite", "event": "started", "test_count": 1 }
 "#;
 
 /// All options that name a file.
-const OPTIONS: [&str; 4] = ["--junit", "--html", "--markdown", "--json"];
+const OPTIONS: [&str; 5] = ["--junit", "--html", "--markdown", "--json", "--names"];
 
 /// Those whose file is replaced.
-const REPLACED: [&str; 3] = ["--junit", "--html", "--json"];
+const REPLACED: [&str; 4] = ["--junit", "--html", "--json", "--names"];
 
 /// Returns the names of what is in a folder and below, in their order.
 fn names_in(folder: &Path) -> Vec<String> {
@@ -154,7 +154,7 @@ fn nothing_is_beside_a_file_while_the_tests_run() {
     let output = command.output().expect("the program runs");
     assert_eq!(output.status.code(), Some(1));
     assert_eq!(fs::read_to_string(&listed).expect("it is there"), "");
-    let expected = ["html", "json", "junit", "listed", "markdown"];
+    let expected = ["html", "json", "junit", "listed", "markdown", "names"];
     assert_eq!(names_in(&folder.0), expected);
 }
 
@@ -195,7 +195,7 @@ fn a_file_that_is_replaced_keeps_its_permissions() {
             );
             assert_eq!(mode_of(&file), kept, "{option} {mode:o}");
             let text = fs::read_to_string(&file).expect("the file is there");
-            assert!(text.len() > 3, "{text}");
+            assert_ne!(text, "old");
         }
     }
 }
@@ -266,7 +266,8 @@ fn a_link_that_the_system_does_not_follow_is_refused() {
 #[test]
 fn a_write_that_fails_leaves_nothing_behind() {
     let folder = Folder::new("space");
-    for option in REPLACED {
+    // No test failed, so the file of names needs no byte.
+    for option in REPLACED.iter().filter(|it| **it != "--names") {
         // A file may have no byte, as on a full device.
         let script = "trap '' XFSZ; ulimit -f 0; exec \"$0\" \"$@\"";
         let path = folder.file("a");
@@ -354,4 +355,29 @@ fn options_that_name_one_file_in_a_folder_that_is_not_there_are_refused() {
     let message = format!("test-report: --junit {first} and --html {second} are one file\n");
     common::assert_output(&output, b"", message.as_bytes(), 2, "conflict");
     assert!(names_in(&folder.0).is_empty());
+}
+
+#[test]
+fn the_file_of_names_has_what_the_form_of_names_writes() {
+    let folder = Folder::new("names");
+    let file = folder.file("names");
+    let lines = r#"{"type":"suite","event":"started","test_count":3}
+{"type":"test","event":"started","name":"b::second"}
+{"type":"test","event":"failed","name":"b::second"}
+{"type":"test","event":"started","name":"passes"}
+{"type":"test","event":"ok","name":"passes"}
+{"type":"test","event":"started","name":"a\u001b[2J"}
+{"type":"test","event":"failed","name":"a\u001b[2J"}
+{"type":"suite","event":"failed","passed":1,"failed":2}
+"#;
+    for form in ["text", "names", "json"] {
+        let arguments = ["--format", form, "--names", &file];
+        let output = run("test-report", &arguments, lines.as_bytes());
+        assert_eq!(output.status.code(), Some(1));
+        let names = fs::read_to_string(&file).expect("it is written");
+        assert_eq!(names, "b::second\na\\u{1b}[2J\n", "{form}");
+    }
+    let output = run("test-report", &["--names", &file], RUN.as_bytes());
+    assert_passed(&output, "a run without a failure");
+    assert_eq!(fs::read(&file).expect("it is written"), b"");
 }

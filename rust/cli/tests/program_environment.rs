@@ -47,6 +47,9 @@ fn sees() {
 }
 "#;
 
+/// The variable that says when cargo uses colours. The program sets it for cargo alone.
+const COLOR: &str = "CARGO_TERM_COLOR";
+
 /// Runs a command in a package with that test, and returns what the test saw, by name.
 fn seen(folder: &Folder, command: &mut Command) -> BTreeMap<String, String> {
     let file = folder.file("seen");
@@ -85,10 +88,20 @@ fn a_test_program_sees_what_it_sees_under_cargo_alone() {
     fs::write(folder.file("Cargo.toml"), manifest).expect("the folder is there");
     fs::write(folder.file("src/lib.rs"), TEST).expect("the folder is there");
     let words = ["test", "--lib", "--", "sees"];
-    let mut alone = seen(&folder, Command::new(env!("CARGO")).args(words));
-    let arguments = [&["--", env!("CARGO")][..], &words].concat();
-    let mut reported = seen(&folder, &mut command("test-report", &arguments));
-    // These differ, as they must.
+    let arguments = [&["--color", "never", "--", env!("CARGO")][..], &words].concat();
+    for color in [None, Some("auto")] {
+        let mut alone = Command::new(env!("CARGO"));
+        let mut reported = command("test-report", &arguments);
+        for command in [alone.args(words), &mut reported] {
+            command.env_remove(COLOR);
+            command.envs(color.map(|color| (COLOR, color)));
+        }
+        assert_same(seen(&folder, &mut alone), seen(&folder, &mut reported));
+    }
+}
+
+/// Asserts that a test saw the same under cargo alone and in a report, apart from what must differ.
+fn assert_same(mut alone: BTreeMap<String, String>, mut reported: BTreeMap<String, String>) {
     for (name, by_cargo, by_report) in [
         (
             "arguments",

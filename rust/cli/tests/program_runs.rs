@@ -2,7 +2,7 @@
 
 mod common;
 
-use common::{Folder, run};
+use common::{Folder, end_of_text, run};
 use std::fs;
 
 /// The first line of a run.
@@ -59,21 +59,19 @@ fn report(form: &str, parts: &[&str]) -> String {
     String::from_utf8(output.stdout).expect("the report is UTF-8")
 }
 
-/// Asserts the lines of the text before the summary, the list after it, and the outcome.
-fn assert_text(parts: &[&str], lines: &str, list: &str, outcome: &str) {
+/// Asserts the lines of the text before its end, the list and the numbers there, and the outcome.
+fn assert_text(parts: &[&str], lines: &str, [list, numbers, outcome]: [&str; 3]) {
     let text = report("text", parts);
-    let (before, after) = text
-        .split_once("------------\n")
-        .expect("there is a summary");
-    let (_, after) = after.split_once('\n').expect("the summary is a line");
-    assert_eq!(before, lines, "{text}");
-    assert_eq!(after, format!("{list}outcome {outcome}\n"), "{text}");
+    let (_, end) = text.split_once("     Summary ").expect("it has a summary");
+    let (summary, _) = end.split_once('\n').expect("the summary is a line");
+    let end = end_of_text(list, numbers, summary, outcome);
+    assert_eq!(text, [lines, &end].concat());
 }
 
-/// Asserts that a contradiction has this line in each form.
-fn assert_contradiction(parts: &[&str], line: &str) {
+/// Asserts that a contradiction has this line in each form, and the numbers of the text.
+fn assert_contradiction(parts: &[&str], line: &str, numbers: &str) {
     let in_list = format!("       ERROR {line}\n");
-    assert_text(parts, &format!("{line}\n"), &in_list, "failed");
+    assert_text(parts, &format!("{line}\n"), [&in_list, numbers, "failed"]);
     let github = report("github", parts);
     assert!(github.contains(&format!("::error::{line}\n")), "{github}");
     let xml = line.replace('"', "&quot;");
@@ -82,10 +80,7 @@ fn assert_contradiction(parts: &[&str], line: &str) {
     assert!(junit.contains(&error), "{junit}");
     let html = report("html", parts);
     assert!(html.contains(line), "{html}");
-    let mut markdown = report("markdown", parts);
-    for (reference, character) in [("&#58;", ":"), ("&#45;", "-"), ("&#44;", ",")] {
-        markdown = markdown.replace(reference, character);
-    }
+    let markdown = report("markdown", parts).replace("&#45;", "-");
     assert!(markdown.contains(&format!("- {line}\n")), "{markdown}");
     let json: serde_json::Value = serde_json::from_str(&report("json", parts)).expect("it is JSON");
     let problem = serde_json::json!({"kind": "disagreement", "line": line});
@@ -107,7 +102,7 @@ fn the_end_of_a_program_that_nothing_explains_is_a_contradiction_in_each_form() 
         ("\"signal\":11", "bank ended by signal 11"),
     ] {
         let parts = [STARTED, PASSING, &ended(how, ""), FAILED];
-        assert_contradiction(&parts, line);
+        assert_contradiction(&parts, line, "1 error, 1 passed");
     }
 }
 
@@ -116,12 +111,14 @@ fn a_program_that_ran_no_tests_or_did_not_end_is_a_contradiction_in_each_form() 
     let none = r#"{"type":"program","event":"started","name":"ledger::t"}
 "#;
     let parts = [STARTED, none, &ended("\"status\":0", ""), PASSED];
-    assert_contradiction(&parts, "ledger::t ended and ran no tests");
+    assert_contradiction(&parts, "ledger::t ended and ran no tests", "1 error");
+    let numbers = "1 error, 1 passed";
     let parts = [STARTED, PASSING, PASSED];
-    assert_contradiction(&parts, "bank did not end");
+    assert_contradiction(&parts, "bank did not end", numbers);
     let (passed, stray) = (ended("\"status\":0", ""), ended("\"status\":3", ""));
     let parts = [STARTED, PASSING, &passed, &stray, FAILED];
-    assert_contradiction(&parts, "a program ended that had not started: status 3");
+    let line = "a program ended that had not started: status 3";
+    assert_contradiction(&parts, line, numbers);
     let parts = [
         STARTED,
         PASSING,
@@ -129,24 +126,24 @@ fn a_program_that_ran_no_tests_or_did_not_end_is_a_contradiction_in_each_form() 
         &ended("\"signal\":6", ""),
         FAILED,
     ];
-    assert_contradiction(&parts, "a program ended that had not started: signal 6");
+    let line = "a program ended that had not started: signal 6";
+    assert_contradiction(&parts, line, numbers);
     let parts = [STARTED, PASSING, &passed];
-    assert_contradiction(
-        &parts,
-        "the run was cut off: no line says how its command ended",
-    );
+    let line = "the run was cut off: no line says how its command ended";
+    assert_contradiction(&parts, line, numbers);
 }
 
 #[test]
 fn a_suite_that_ended_early_has_the_end_of_its_program() {
+    let numbers = "1 error, 1 passed";
     for (how, end) in [
         ("\"signal\":11", "by signal 11"),
         ("\"status\":0", "with status 0"),
     ] {
         let parts = [STARTED, BEGUN, &ended(how, ""), FAILED];
-        assert_contradiction(&parts, &format!("bank ended early, {end}"));
+        assert_contradiction(&parts, &format!("bank ended early, {end}"), numbers);
     }
-    assert_contradiction(&[STARTED, BEGUN, FAILED], "bank ended early");
+    assert_contradiction(&[STARTED, BEGUN, FAILED], "bank ended early", numbers);
 }
 
 #[test]
@@ -164,7 +161,8 @@ ledger: 2 of 3 tests were not run
     adds ran when ledger ended
 ";
     let list = "       CRASH ledger parses: its process ended before it did (signal: 6, SIGABRT)\n";
-    assert_text(&parts, lines, list, "failed");
+    let numbers = "1 failed (1 crashed), 2 not run";
+    assert_text(&parts, lines, [list, numbers, "failed"]);
     assert_eq!(report("names", &parts), "parses\n");
     let json = report("json", &parts);
     assert!(
@@ -192,8 +190,12 @@ ledger: 2 of 3 tests were not run
     // A status that is not that of a failed test explains nothing, but ended the tests.
     let parts = [STARTED, LEDGER, &ended("\"status\":7", ""), FAILED];
     let text = report("text", &parts);
-    let short = "CRASH ledger adds: one of 2 tests that ran when its process ended (status 7)\n";
-    assert!(text.contains(short), "{text}");
+    let listed = "\
+       CRASH 2 tests: one of 2 tests that ran when its process ended (status 7)
+             ledger adds
+             ledger parses
+";
+    assert!(text.contains(listed), "{text}");
 }
 
 #[test]
@@ -201,8 +203,8 @@ fn a_panic_that_ended_a_program_is_in_the_short_reason_after_its_end() {
     let stderr = "thread 'adds' (7) panicked at src/lib.rs:1:2:\nlost\nthread caused non-unwinding panic. aborting.\n";
     let parts = [STARTED, LEDGER, &ended("\"signal\":6", stderr), FAILED];
     let text = report("text", &parts);
-    let short = "CRASH ledger adds: its process ended before it did (signal: 6, SIGABRT): panicked at src/lib.rs:1:2: lost\n";
-    assert!(text.contains(short), "{text}");
+    let listed = "       CRASH src/lib.rs:1:2: ledger adds: its process ended before it did (signal: 6, SIGABRT): lost\n";
+    assert!(text.contains(listed), "{text}");
 }
 
 #[test]
@@ -216,7 +218,7 @@ fn a_cancelled_run_lists_the_tests_that_were_stopped_and_says_so_once() {
     ];
     let lines = "ledger: 3 of 3 tests were not run\nthe run was cancelled (Interrupt)\n";
     let list = "     STOPPED ledger adds\n     STOPPED ledger parses\n";
-    assert_text(&parts, lines, list, "cancelled");
+    assert_text(&parts, lines, [list, "3 not run", "cancelled"]);
     assert_eq!(report("names", &parts), "");
     let line = "the run was cancelled (Interrupt)";
     let github = report("github", &parts);
@@ -273,7 +275,7 @@ FAIL bank pays
 ledger: 3 of 3 tests were not run
 ";
     let list = "        FAIL bank pays: no output was captured\n     STOPPED ledger adds\n     STOPPED ledger parses\n";
-    assert_text(&parts, lines, list, "failed");
+    assert_text(&parts, lines, [list, "1 failed, 3 not run", "failed"]);
     // All passed, and the command ended with status 0.
     let parts = [
         STARTED,
@@ -282,7 +284,7 @@ ledger: 3 of 3 tests were not run
         &ended("\"status\":0", ""),
         PASSED,
     ];
-    assert_text(&parts, "", "", "success");
+    assert_text(&parts, "", ["", "1 passed", "success"]);
     let output = run(
         "test-report",
         &["--others", "never"],
@@ -299,7 +301,7 @@ fn a_cancelled_run_has_status_1_even_if_no_tests_may_pass() {
         assert_eq!(output.status.code(), Some(1));
         let text = String::from_utf8_lossy(&output.stdout);
         assert!(
-            text.starts_with("the run was cancelled (Interrupt)\n---"),
+            text.starts_with("the run was cancelled (Interrupt)\nno test ran\n---"),
             "{text}"
         );
         assert!(text.ends_with("outcome cancelled\n"), "{text}");
@@ -331,8 +333,7 @@ fn the_text_says_once_that_a_program_with_its_own_harness_has_no_report() {
             STARTED, own, &passed, own, &passed, PASSING, &passed, PASSED,
         ],
         line,
-        "",
-        "success",
+        ["", "1 passed", "success"],
     );
     // It is said where another program starts, and at the end of the run.
     for rest in [&[PASSING, &passed, PASSED][..], &[PASSED]] {
@@ -341,9 +342,11 @@ fn the_text_says_once_that_a_program_with_its_own_harness_has_no_report() {
     }
     // If it writes events, it has a report.
     let (_, suite) = PASSING.split_once('\n').expect("a program starts");
-    assert_text(&[STARTED, own, suite, &passed, PASSED], "", "", "success");
+    let parts = [STARTED, own, suite, &passed, PASSED];
+    assert_text(&parts, "", ["", "1 passed", "success"]);
     // A run of such programs alone has no tests.
-    assert_text(&[STARTED, own, &passed, PASSED], line, "", "no-tests-run");
+    let parts = [STARTED, own, &passed, PASSED];
+    assert_text(&parts, line, ["", "no test ran", "no-tests-run"]);
     for form in ["github", "junit", "html", "markdown", "json", "names"] {
         let report = report(form, &[STARTED, own, &passed, PASSED]);
         assert!(!report.contains("own harness"), "{report}");
@@ -403,8 +406,8 @@ FAIL ledger adds
     thread 'adds' (7) panicked at src/lib.rs:1:2:
     no money
 ";
-    let list = "        FAIL ledger parses: panicked at src/lib.rs:3:4: no text\n        FAIL ledger adds: panicked at src/lib.rs:1:2: no money\n";
-    assert_text(&parts, lines, list, "failed");
+    let list = "        FAIL src/lib.rs:1:2: ledger adds: no money\n        FAIL src/lib.rs:3:4: ledger parses: no text\n";
+    assert_text(&parts, lines, [list, "2 failed", "failed"]);
     let github = report("github", &parts);
     assert!(github.contains("file=src/lib.rs,line=3,col=4,"), "{github}");
     let junit = report("junit", &parts);
@@ -430,7 +433,8 @@ fn the_error_of_the_command_is_shown_if_nothing_else_failed() {
     let passed = ended("\"status\":0", "");
     let lines = "cargo: error: 1 target failed:\n        `--test t`\n";
     let list = "       ERROR cargo: error: 1 target failed:\n";
-    assert_text(&[STARTED, PASSING, &passed, error], lines, list, "failed");
+    let parts = [STARTED, PASSING, &passed, error];
+    assert_text(&parts, lines, [list, "1 error, 1 passed", "failed"]);
     let parts = [STARTED, PASSING, &ended("\"status\":3", ""), error];
     assert!(!report("text", &parts).contains("cargo"));
     // Before any program starts, the build failed: there is no summary.
@@ -526,7 +530,9 @@ fn a_run_that_was_cancelled_stops_no_test_of_another_run() {
     let output = run("test-report", &[&cancelled, &crashed], b"");
     let text = String::from_utf8_lossy(&output.stdout);
     assert_eq!(text.matches("\n     STOPPED ledger").count(), 2, "{text}");
-    assert_eq!(text.matches("\n       CRASH ledger").count(), 2, "{text}");
+    let crashed = "\n       CRASH 2 tests: one of 2 tests that ran when its process ended (signal: 6, SIGABRT)\n             \
+        ledger adds\n             ledger parses\n";
+    assert!(text.contains(crashed), "{text}");
     assert!(text.ends_with("outcome failed\n"), "{text}");
 }
 

@@ -183,11 +183,14 @@ fn assert_passed_on(output: &Output) {
     ] {
         assert!(passed_on.contains(wanted), "{wanted:?} in {passed_on}");
     }
-    assert!(
-        passed_on.contains("  process didn't exit successfully: `/"),
-        "{passed_on}"
-    );
-    for hidden in ["--as-runner", "\"program\"", "\"command\""] {
+    // The report says which tests failed, so cargo's words are left out.
+    for hidden in [
+        "--as-runner",
+        "\"program\"",
+        "\"command\"",
+        "to rerun pass",
+        "didn't exit successfully",
+    ] {
         assert!(!passed_on.contains(hidden), "{hidden}");
     }
 }
@@ -252,11 +255,19 @@ fn saved_of_script(folder: &Folder, script: &str, options: &[&str]) -> (Output, 
 /// Returns a run of a script `cargo` that builds nothing and then does this.
 fn run_of_script(folder: &Folder, script: &str, options: &[&str]) -> Command {
     let text = format!(
-        "#!/bin/sh\ncase \" $* \" in\n*'config get'*) exit ;;\n*' --no-run '*) eval \"$BUILD\"; exit ;;\nesac\n{script}\n"
+        "#!/bin/sh\ncase \" $* \" in\n*'config get'*|*' metadata '*) exit ;;\n*' --no-run '*) eval \"$BUILD\"; exit ;;\nesac\n{script}\n"
     );
     let cargo = folder.script("cargo", &text);
     let arguments = [&["--save", "run.jsonl"], options, &["--", &cargo, "test"]].concat();
     report(folder, &arguments)
+}
+
+/// Returns a line about the end of a command without the time for which its tests ran, which is a number of seconds.
+fn without_time(line: &str) -> String {
+    let (before, time) = line.rsplit_once(",\"time\":").expect("the line has a time");
+    let time = time.strip_suffix('}').expect("the time is the last member");
+    assert!(time.parse::<f64>().is_ok_and(|time| time < 60.0), "{line}");
+    format!("{before}}}")
 }
 
 #[test]
@@ -271,7 +282,7 @@ fn the_end_of_a_command_has_the_last_error_unless_it_is_a_success() {
         ("exit 0", json!({"status": 0})),
     ] {
         let (_, lines) = saved_of_script(&folder, &format!("{text}\n{end}"), &[]);
-        let last: Value = serde_json::from_str(&lines[1]).expect("the line is JSON");
+        let last: Value = serde_json::from_str(&without_time(&lines[1])).expect("it is JSON");
         let mut line = json!({"type": "command", "event": "ended"});
         let members = line.as_object_mut().expect("it is an object");
         members.extend(wanted.as_object().expect("it is an object").clone());
@@ -279,7 +290,10 @@ fn the_end_of_a_command_has_the_last_error_unless_it_is_a_success() {
         assert_eq!(lines[0], r#"{"type":"command","event":"started"}"#);
     }
     let (_, lines) = saved_of_script(&folder, "exit 5", &[]);
-    assert_eq!(lines[1], r#"{"type":"command","event":"ended","status":5}"#);
+    assert_eq!(
+        without_time(&lines[1]),
+        r#"{"type":"command","event":"ended","status":5}"#
+    );
 }
 
 #[test]
@@ -357,11 +371,16 @@ fn what_comes_on_standard_error_is_passed_on_and_is_no_part_of_the_run() {
         "end",
         r#"{"type":"command","event":"ended","status":0}"#,
     ]);
-    assert_eq!(lines, saved);
+    let with_end = |lines: &[String]| {
+        let (last, others) = lines.split_last().expect("there are lines");
+        let others = others.iter().cloned();
+        others.chain([without_time(last)]).collect::<Vec<_>>()
+    };
+    assert_eq!(with_end(&lines), saved);
     // With this option nothing of it is passed on.
     let (output, again) = saved_of_script(&folder, &script, &["--others", "never"]);
     assert_eq!(output.stderr, b"");
-    assert_eq!(again, lines);
+    assert_eq!(with_end(&again), saved);
 }
 
 #[test]
@@ -431,7 +450,11 @@ fn the_lines_are_saved_as_they_come_and_say_where_a_signal_was_taken() {
         let cancelled =
             format!(r#"{{"type":"command","event":"cancelled","cancelled":"{cancelled}"}}"#);
         let end = format!(r#"{{"type":"command","event":"ended",{end}"#);
-        assert_eq!(lines[5..], [cancelled, "late".into(), end], "{signal}");
+        let [before @ .., last] = &lines[5..] else {
+            panic!("{lines:?}");
+        };
+        assert_eq!(before, [cancelled, "late".into()], "{signal}");
+        assert_eq!(without_time(last), end, "{signal}");
     }
 }
 

@@ -169,7 +169,7 @@ fn write_programs(folder: &Folder, path: &str, harness: bool) -> String {
         "path": path, "package": "money", "target": "it", "kind": "test", "name": "money::it", "harness": harness,
     });
     let file = folder.file("programs");
-    fs::write(&file, json!([program]).to_string()).expect("the folder is there");
+    fs::write(&file, json!({"programs": [program]}).to_string()).expect("the folder is there");
     file
 }
 

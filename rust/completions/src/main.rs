@@ -35,15 +35,15 @@ fn programs() -> [(Command, Document); 3] {
         path: "docs/TEST-REPORT.md",
         text: include_str!("../../../docs/TEST-REPORT.md"),
         sections: &[
-            ("Running the tests", "Running the tests"),
-            ("What the report has", "What the report has"),
+            ("Running a command", "Running a command"),
+            ("In a terminal", "What the report has"),
             ("Contradictions", "Contradictions"),
             ("Forms", "Forms"),
         ],
         is_proved: false,
     };
     let of_cargo_test_report = Document {
-        sections: &[("Running the tests", "Running the tests")],
+        sections: &[("Running a command", "Running a command")],
         ..of_test_report
     };
     [
@@ -88,8 +88,9 @@ mod tests {
     /// What `./run-digest --help` prints. The proved program prints the same.
     const DIGEST: &str = include_str!("../../../tools/help/run-digest.txt");
 
-    /// What `./test-report --help` prints.
+    /// What `./test-report --help` and `./test-report -h` print. `tools/write-help` writes them.
     const REPORT: &str = include_str!("../../../tools/help/test-report.txt");
+    const SHORT_REPORT: &str = include_str!("../../../tools/help/test-report.short.txt");
 
     /// Returns the words of a text, one a line.
     fn words_of(text: &str) -> String {
@@ -98,19 +99,11 @@ mod tests {
             .collect()
     }
 
-    /// Returns the words of a program's `--help`. Older versions of clap say `Print help information`.
-    fn help_of(mut command: Command) -> String {
-        words_of(
-            &command
-                .render_help()
-                .to_string()
-                .replace(" information", ""),
-        )
-    }
-
     #[test]
     fn help_of_run_digest_is_that_of_the_proved_program() {
-        let own = help_of(run_digest());
+        // Older versions of clap say `Print help information`.
+        let own = run_digest().render_help().to_string();
+        let own = words_of(&own.replace(" information", ""));
         // The plain program aborts if memory runs out.
         let beginning = own.strip_suffix("writing\nfailed\n").expect(&own);
         let last = words_of("writing failed, or there was not enough memory");
@@ -119,7 +112,12 @@ mod tests {
 
     #[test]
     fn the_stored_help_is_that_of_test_report() {
-        assert_eq!(help_of(test_report()), words_of(REPORT));
+        let (long, short) = (
+            test_report().render_long_help(),
+            test_report().render_help(),
+        );
+        assert_eq!(words_of(&long.to_string()), words_of(REPORT));
+        assert_eq!(words_of(&short.to_string()), words_of(SHORT_REPORT));
     }
 
     #[test]

@@ -29,7 +29,7 @@ pub struct Document {
 pub fn man_page(mut command: Command, document: &Document) -> Result<String, String> {
     command.build();
     let usage = command.render_usage().to_string();
-    let help = plain(command.get_after_help());
+    let help = plain(command.get_after_long_help().or(command.get_after_help()));
     let (sections, description): (Vec<_>, Vec<_>) = help.split("\n\n").partition(is_section);
     let mut page = Page::new(command.get_name(), command.render_version().trim_end());
     add_name(&mut page, &command, usage.trim_start_matches("Usage: "));
@@ -50,7 +50,9 @@ fn add_name(page: &mut Page, command: &Command, usage: &str) {
     page.section("Name");
     page.text(&format!("{name} - {about}"));
     page.section("Synopsis");
-    page.text(&usage.replacen(name, &format!("`{name}`"), 1));
+    for line in usage.lines() {
+        page.line_of_its_own(&line.trim_start().replacen(name, &format!("`{name}`"), 1));
+    }
     page.section("Description");
     page.text(&format!("{about}."));
 }
@@ -89,7 +91,7 @@ fn add_list(page: &mut Page, heading: &str, arguments: &[&Arg]) {
         page.section(heading);
     }
     for argument in arguments {
-        let text = plain(argument.get_help()) + &values_of(argument);
+        let text = plain(argument.get_long_help().or(argument.get_help()));
         page.entry(&flags_of(argument), &value_of(argument), &text);
     }
 }
@@ -110,27 +112,6 @@ fn value_of(argument: &Arg) -> String {
     shown
         .split_once(' ')
         .map_or_else(String::new, |(_, value)| value.to_owned())
-}
-
-/// Returns the default and the possible values of an argument, as `--help` has them.
-fn values_of(argument: &Arg) -> String {
-    if !argument.get_action().takes_values() {
-        return String::new();
-    }
-    let defaults = argument.get_default_values().iter();
-    let defaults: Vec<_> = defaults.map(|value| value.to_string_lossy()).collect();
-    let possible = argument.get_value_parser().possible_values();
-    let possible = possible.into_iter().flatten();
-    let names: Vec<_> = possible.map(|value| value.get_name().to_owned()).collect();
-    listed("default", &defaults.join(" ")) + &listed("possible values", &names.join(", "))
-}
-
-/// Returns a list in brackets, or nothing if it is empty.
-fn listed(name: &str, list: &str) -> String {
-    if list.is_empty() {
-        return String::new();
-    }
-    format!(" [{name}: {list}]")
 }
 
 /// Returns true if a paragraph of `--help` is a section of its own, and no part of the description.
@@ -198,12 +179,17 @@ Exit status:
      or not
   1  there is no file";
 
+    const FORM_HELP: &str = "How `it` is:\n- a: so\n- b: not so";
+
     /// The man page of the program below.
     const PAGE: &str = r#".TH "A\-PROGRAM" "1" "" "a\-program 1.2" ""
 .SH NAME
 a\-program \- Does it
 .SH SYNOPSIS
-\fBa\-program\fR [OPTIONS] [FILE]...
+.br
+\fBa\-program\fR [OPTIONS]
+.br
+\fBa\-program\fR [FILE]...
 .SH DESCRIPTION
 Does it.
 .PP
@@ -220,7 +206,11 @@ A file
 .SH OPTIONS
 .TP
 \fB\-f, \-\-form\fR \fI<FORM>\fR
-How \fBit\fR is [default: b] [possible values: a, b]
+How \fBit\fR is:
+.br
+\- a: so
+.br
+\- b: not so
 .TP
 \fB\-\-raw\fR
 As it is
@@ -252,11 +242,7 @@ The status is also 3 if there was not enough memory.
             .value_name("FILE")
             .num_args(0..)
             .help("A file");
-        let form = Arg::new("form")
-            .long("form")
-            .short('f')
-            .value_name("FORM")
-            .value_parser(["a", "b"]);
+        let form = Arg::new("form").long("form").short('f').value_name("FORM");
         let raw = Arg::new("raw")
             .long("raw")
             .action(ArgAction::SetTrue)
@@ -264,10 +250,12 @@ The status is also 3 if there was not enough memory.
         Command::new("a-program")
             .version("1.2")
             .about("Does it")
-            .args([file, form.default_value("b").help("How `it` is"), raw])
+            .override_usage("a-program [OPTIONS]\n       a-program [FILE]...")
+            .args([file, form.help("How").long_help(FORM_HELP), raw])
             .disable_help_flag(true)
             .disable_version_flag(true)
-            .after_help(HELP)
+            .after_help("See --help")
+            .after_long_help(HELP)
     }
 
     #[test]

@@ -66,11 +66,21 @@ impl Page {
         self.request(".EE");
     }
 
-    /// Adds a text to the paragraph, the item or the entry above it, or to the section if that is empty.
+    /// Adds a text to the paragraph, the item or the entry above it, or to the section if that is empty. A line that
+    /// begins with `- ` stays a line of its own.
     pub fn text(&mut self, text: &str) {
         for line in inline(text).lines() {
+            if line.starts_with(r"\- ") {
+                self.request(".br");
+            }
             self.line(line);
         }
+    }
+
+    /// Adds a text as a line that is joined with no other.
+    pub fn line_of_its_own(&mut self, text: &str) {
+        self.request(".br");
+        self.text(text);
     }
 
     /// Returns the whole page.
@@ -108,9 +118,9 @@ fn font(name: char, text: &str) -> String {
     format!(r"\f{name}{}\fR", escaped(text))
 }
 
-/// Returns a text in roff: code in backquotes is bold, and links are their texts.
+/// Returns a text in roff: code in backquotes is bold, other bold text is plain, and links are their texts.
 fn inline(text: &str) -> String {
-    let text = without_links(text);
+    let text = without_links(text).replace("**", "");
     let parts = text.split('`').enumerate();
     parts
         .map(|(at, part)| {
@@ -213,6 +223,11 @@ mod tests {
     fn code_is_bold_and_shows_its_spaces() {
         assert_eq!(inline("`--raw`, and so on"), "\\fB\\-\\-raw\\fR, and so on");
         assert_eq!(inline("after ` slow`"), "after \\(ga\\fB\\ slow\\fR\\(ga");
+    }
+
+    #[test]
+    fn bold_text_is_plain() {
+        assert_eq!(inline("**It is `so`.** Yes"), "It is \\fBso\\fR. Yes");
     }
 
     #[test]

@@ -1,8 +1,7 @@
 //! Reports of runs whose lines are texts.
 
-use deodarsieve::{FinalStatusLevel, StatusLevel, TestOutputDisplay};
 use deodarsieve_cli::report::fault::Fault;
-use deodarsieve_cli::report::options::{Options, OutputDisplay};
+use deodarsieve_cli::report::options::Options;
 use deodarsieve_cli::report::{Ended, Files, Format, Report};
 use std::collections::VecDeque;
 use std::io::{self, Write};
@@ -11,24 +10,29 @@ use std::io::{self, Write};
 pub const SLOW: u64 = 60_000_000;
 
 /// The options of most reports.
-pub const OPTIONS: Options = Options {
-    limit: 4_096,
-    output: OutputDisplay::Auto,
-    raw: false,
-    color: false,
-    status_level: StatusLevel::Fail,
-    final_status_level: FinalStatusLevel::Slow,
-    failure_output: TestOutputDisplay::Immediate,
-    success_output: TestOutputDisplay::Never,
-    passed_limit: usize::MAX,
-    slowest: 0,
-    no_tests_pass: false,
-};
+pub const OPTIONS: Options = Options::DEFAULT;
 
 /// Returns a report of a run that may have several files without names.
 #[must_use]
 pub fn new_report(options: Options, format: Format, files: Files) -> Report {
     Report::new(options, format, files, SLOW, VecDeque::new())
+}
+
+/// Returns the end of a text for people in a pipe: the list, the numbers in words, and the summary for scripts.
+#[must_use]
+pub fn end_of_text(list: &str, numbers: &str, summary: &str, outcome: &str) -> String {
+    let rule = "------------\n";
+    let above = if list.is_empty() { "" } else { rule };
+    format!("{above}{list}{numbers}\n{rule}     Summary {summary}\noutcome {outcome}\n")
+}
+
+/// Returns the entry of a list for tests with these names that failed with the same cause.
+#[must_use]
+pub fn group_text(cause: &str, mut names: Vec<String>) -> String {
+    names.sort_unstable();
+    let lines = names.iter().map(|name| format!("             {name}\n"));
+    let lines: String = lines.collect();
+    format!("        FAIL {} tests: {cause}\n{lines}", names.len())
 }
 
 /// Passes the lines of a file to a report, as the program does. The lines that are no events go to `others`.

@@ -1,6 +1,7 @@
 //! What cargo writes to standard error, line by line: the words that the stand-in adds are left out, and the last error
 //! is kept.
 
+use super::last_words::LastWords;
 use super::stand_in::AS_RUNNER;
 use crate::report::build::without_colors;
 use bstr::ByteSlice;
@@ -8,7 +9,7 @@ use std::borrow::Cow;
 use std::mem;
 
 /// What cargo writes at the front of a line before the command that failed.
-const FAILED: &str = "  process didn't exit successfully: `";
+pub const FAILED: &str = "  process didn't exit successfully: `";
 
 /// The beginning of a line with which cargo reports an error.
 const ERROR: &str = "error:";
@@ -24,6 +25,7 @@ pub struct CargoMessages {
 
     /// The last error and the lines after it, or nothing if there was none.
     error: String,
+    last_words: LastWords,
 }
 
 impl CargoMessages {
@@ -32,18 +34,25 @@ impl CargoMessages {
         CargoMessages {
             front: format!("{FAILED}{stand_in} {AS_RUNNER} ").into_bytes(),
             error: String::new(),
+            last_words: LastWords::default(),
         }
     }
 
-    /// Takes the next line, which has no line feed. Returns it as cargo would write it without the stand-in: if a test
-    /// program fails, cargo writes the command that it started.
-    pub fn take<'a>(&mut self, line: &'a [u8]) -> Cow<'a, [u8]> {
+    /// Takes the next line, which has no line feed. Passes on the lines that can be written now, as cargo would write them
+    /// without the stand-in: if a test program fails, cargo writes the command that it started.
+    pub fn take(&mut self, line: &[u8], pass_on: impl FnMut(&[u8])) {
         let line = match line.strip_prefix(self.front.as_slice()) {
             Some(rest) => Cow::from([FAILED.as_bytes(), rest].concat()),
             None => Cow::from(line),
         };
         self.note_error(&line);
-        line
+        self.last_words.take(&line, pass_on);
+    }
+
+    /// Returns the lines that were not passed on, at the end. If the report says why tests failed, those in which cargo says
+    /// that they did are left out.
+    pub fn take_last_words(&mut self, is_reported: bool) -> Vec<Vec<u8>> {
+        self.last_words.finish(is_reported)
     }
 
     /// Returns the last error and the lines after it, without colours, if there was an error.
@@ -83,10 +92,11 @@ mod tests {
     /// Returns what is shown of a text, and the error in it.
     fn taken(text: &str) -> (String, Option<String>) {
         let mut messages = CargoMessages::new(PATH);
-        let shown: Vec<_> = text
-            .lines()
-            .map(|line| messages.take(line.as_bytes()).to_str_lossy().into_owned())
-            .collect();
+        let mut shown = Vec::new();
+        for line in text.lines() {
+            let keep = |line: &[u8]| shown.push(line.to_str_lossy().into_owned());
+            messages.take(line.as_bytes(), keep);
+        }
         (shown.join("\n"), messages.take_error())
     }
 

@@ -2,9 +2,13 @@
 
 use super::aliases::without_aliases;
 use super::cargo::{CargoCommand, Runner, runner_of, subcommand_at, values_of};
+use super::cargo_colors::CARGO_COLOR;
+use super::harness::{ACCEPT_OPTIONS, BOOTSTRAP, missing_options};
 use super::settings::names_other_program;
-use super::stand_in::{ACCEPT_OPTIONS, AS_RUNNER, AS_RUSTDOC, BOOTSTRAP, missing_options};
+use super::stand_in::{AS_RUNNER, AS_RUSTDOC, USERS_COLOR};
+use super::standing_in::StandIn;
 use crate::report::advice::Advice;
+use crate::run_again::RunAgain;
 use std::env;
 use std::ffi::OsString;
 use std::io::{self, IsTerminal};
@@ -13,9 +17,6 @@ use std::process::{Command, Stdio};
 
 /// The variable without which nextest refuses to write JSON lines.
 const NEXTEST_JSON: &str = "NEXTEST_EXPERIMENTAL_LIBTEST_JSON";
-
-/// The variable that says when cargo uses colours.
-const CARGO_COLOR: &str = "CARGO_TERM_COLOR";
 
 /// The message if the harness cannot be made to accept its options without a variable for all of cargo.
 const COST: &str = "test-report: RUSTC_BOOTSTRAP is set for the whole of cargo, because your settings name a runner or \
@@ -48,8 +49,8 @@ pub struct Prepared {
     /// The advice for the case that the command writes no line of a harness.
     pub advice: Advice,
 
-    /// The path of the program that cargo starts in place of the test programs, if it starts one.
-    pub stand_in: Option<String>,
+    /// The program that cargo starts in place of the test programs, if it starts one.
+    pub stand_in: Option<StandIn>,
 }
 
 /// A cargo that builds the tests of a command, and says which programs they are.
@@ -76,19 +77,24 @@ enum Acceptance {
     Given,
 }
 
-/// Returns a command with what makes it write JSON lines, if it is a cargo that runs tests.
-pub fn prepare(words: &[OsString]) -> Prepared {
+/// Returns a command with what makes it write JSON lines, if it is a cargo that runs tests, and with this value of cargo's
+/// variable for colours, or that of the user.
+pub fn prepare(words: &[OsString], color: Option<&str>) -> Prepared {
     let mut prepared = match CargoCommand::of(&without_aliases(words)) {
         Some(cargo) if cargo.runner == Runner::Nextest => with_nextest(&cargo),
         Some(cargo) if writes_other_format(&cargo) => Prepared {
             advice: Advice::OtherFormat,
             ..unchanged(words)
         },
-        Some(cargo) => with_harness(&cargo, &acceptance_for(&cargo)),
+        Some(cargo) => with_harness(&cargo, &acceptance_for(&cargo), color),
         None => unchanged(words),
     };
-    if io::stderr().is_terminal() && env::var_os(CARGO_COLOR).is_none() {
-        prepared.variables.push((CARGO_COLOR, "always".into()));
+    if let Some(color) = color {
+        prepared.variables.push((CARGO_COLOR, color.into()));
+        if prepared.stand_in.is_some() {
+            let users = env::var_os(CARGO_COLOR).unwrap_or_default();
+            prepared.variables.push((USERS_COLOR, users));
+        }
     }
     prepared
 }
@@ -104,6 +110,13 @@ impl Prepared {
         let mut command = self.command_of(&build.words);
         command.stdin(Stdio::null());
         command
+    }
+
+    /// Sets which of the tests run, and how often, if stand-ins run them.
+    pub fn run_again(&mut self, again: RunAgain) {
+        if let Some(stand_in) = &mut self.stand_in {
+            stand_in.again = again;
+        }
     }
 
     /// Returns true if the user wants cargo to say less. Then it writes no warnings of its own.
@@ -166,10 +179,10 @@ fn acceptance_for(cargo: &CargoCommand) -> Acceptance {
 }
 
 /// Returns a `cargo test` or `cargo bench` whose harness writes JSON lines.
-fn with_harness(cargo: &CargoCommand, acceptance: &Acceptance) -> Prepared {
+fn with_harness(cargo: &CargoCommand, acceptance: &Acceptance, color: Option<&str>) -> Prepared {
     let front = words_before_own(cargo, acceptance);
     let prepared = Prepared {
-        build: build_of(cargo, &front),
+        build: build_of(cargo, &front, color),
         words: words_that_run(cargo, acceptance, front),
         advice: Advice::Nobody,
         ..unchanged(&[])
@@ -177,7 +190,7 @@ fn with_harness(cargo: &CargoCommand, acceptance: &Acceptance) -> Prepared {
     match acceptance {
         Acceptance::StandIn(path) => Prepared {
             variables: vec![(AS_RUSTDOC, "1".into())],
-            stand_in: Some(path.clone()),
+            stand_in: Some(StandIn::of(cargo, path)),
             ..prepared
         },
         Acceptance::WholeCargo => Prepared {
@@ -232,7 +245,7 @@ fn words_that_run(
 
 /// Returns what builds the tests of a command that begins with the words `front`. Returns `None` if cargo would refuse
 /// it: cargo cannot build documentation tests alone, and has only one message format.
-fn build_of(cargo: &CargoCommand, front: &[OsString]) -> Option<Build> {
+fn build_of(cargo: &CargoCommand, front: &[OsString], color: Option<&str>) -> Option<Build> {
     let refuses = cargo.own.iter().any(|word| word == "--doc")
         || !values_of(cargo.own, "--message-format").is_empty();
     if refuses {
@@ -240,7 +253,7 @@ fn build_of(cargo: &CargoCommand, front: &[OsString]) -> Option<Build> {
     }
     let mut words = front.to_vec();
     words.extend(BUILDS.map(OsString::from));
-    words.push(message_format(cargo).into());
+    words.push(message_format(cargo, color).into());
     words.extend_from_slice(cargo.own);
     Some(Build {
         words,
@@ -248,12 +261,14 @@ fn build_of(cargo: &CargoCommand, front: &[OsString]) -> Option<Build> {
     })
 }
 
-/// Returns the format of cargo's messages: with colours if cargo's own words have them.
-fn message_format(cargo: &CargoCommand) -> &'static str {
+/// Returns the format of cargo's messages: with colours if cargo's own words have them. An option of cargo goes before the
+/// variable.
+fn message_format(cargo: &CargoCommand, color: Option<&str>) -> &'static str {
     let options = [cargo.before, cargo.own].map(|words| values_of(words, "--color"));
     let option = options.concat().last().map(|color| color.to_string());
-    let variable = env::var(CARGO_COLOR).ok();
-    match option.or(variable).as_deref() {
+    let given = || env::var(CARGO_COLOR).ok();
+    let variable = || color.map(String::from).or_else(given);
+    match option.or_else(variable).as_deref() {
         Some("always") => COLORED_JSON,
         Some("never") => JSON,
         _ if io::stderr().is_terminal() => COLORED_JSON,
@@ -264,7 +279,7 @@ fn message_format(cargo: &CargoCommand) -> &'static str {
 /// Returns the folder in which cargo works.
 ///
 /// Fails if there is none.
-fn folder_of(cargo: &CargoCommand) -> io::Result<PathBuf> {
+pub fn folder_of(cargo: &CargoCommand) -> io::Result<PathBuf> {
     let folder = env::current_dir()?;
     match values_of(cargo.before, "-C").last() {
         Some(path) => folder.join(path).canonicalize(),
@@ -317,7 +332,7 @@ mod tests {
     fn harness_words(command: &str) -> Vec<OsString> {
         let given = words(command);
         let cargo = CargoCommand::of(&given).expect("the command runs tests");
-        with_harness(&cargo, &Acceptance::Given).words
+        with_harness(&cargo, &Acceptance::Given, None).words
     }
 
     #[test]
@@ -352,7 +367,7 @@ mod tests {
     fn settings_before_the_subcommand_name_the_stand_in() {
         let given = words("cargo --locked test");
         let cargo = CargoCommand::of(&given).expect("the command runs tests");
-        let prepared = with_harness(&cargo, &Acceptance::StandIn("/a b/\"c\\".into()));
+        let prepared = with_harness(&cargo, &Acceptance::StandIn("/a b/\"c\\".into()), None);
         let wanted = [
             "cargo",
             "--locked",
@@ -378,7 +393,7 @@ mod tests {
         ] {
             let given = words(command);
             let cargo = CargoCommand::of(&given).expect("the command runs tests");
-            let prepared = with_harness(&cargo, &Acceptance::StandIn("/a".into()));
+            let prepared = with_harness(&cargo, &Acceptance::StandIn("/a".into()), None);
             let at = |wanted: &str| prepared.words.iter().position(|word| word == wanted);
             assert_eq!(at("build.rustdoc=\"/a\"") > at("test"), after, "{command}");
             let build = prepared.build.expect("cargo builds first");
@@ -396,7 +411,7 @@ mod tests {
     fn cargo_builds_first_with_the_same_arguments() {
         let given = words("cargo --locked bench --lib a -- --exact");
         let cargo = CargoCommand::of(&given).expect("the command runs tests");
-        let build_of = |acceptance| with_harness(&cargo, acceptance).build;
+        let build_of = |acceptance| with_harness(&cargo, acceptance, None).build;
         let build = build_of(&Acceptance::Given).expect("cargo can build");
         let builds = "--no-run --message-format json";
         let wanted = words(&format!("cargo --locked bench {builds} --lib a"));
@@ -417,7 +432,24 @@ mod tests {
         ] {
             let given = words(command);
             let cargo = CargoCommand::of(&given).expect("the command runs tests");
-            assert_eq!(message_format(&cargo), format, "{command}");
+            assert_eq!(message_format(&cargo, None), format, "{command}");
+        }
+    }
+
+    #[test]
+    fn messages_have_the_colors_that_cargo_is_given_unless_an_option_says_others() {
+        for (command, colors, format) in [
+            ("cargo test", Some("always"), COLORED_JSON),
+            ("cargo test", Some("never"), JSON),
+            ("cargo test --color never", Some("always"), JSON),
+            ("cargo test --color always", Some("never"), COLORED_JSON),
+        ] {
+            let given = words(command);
+            let cargo = CargoCommand::of(&given).expect("the command runs tests");
+            assert_eq!(message_format(&cargo, colors), format, "{command}");
+            let value = colors.expect("it has one");
+            let prepared = prepare(&given, colors);
+            assert!(prepared.variables.contains(&(CARGO_COLOR, value.into())));
         }
     }
 
@@ -448,7 +480,7 @@ mod tests {
             "cargo test -- --format pretty",
             "make test",
         ] {
-            assert_eq!(prepare(&words(command)).build, None, "{command}");
+            assert_eq!(prepare(&words(command), None).build, None, "{command}");
         }
     }
 
@@ -469,7 +501,7 @@ mod tests {
     fn a_message_says_what_the_variable_costs() {
         let given = words("cargo test");
         let cargo = CargoCommand::of(&given).expect("the command runs tests");
-        let prepared = with_harness(&cargo, &Acceptance::WholeCargo);
+        let prepared = with_harness(&cargo, &Acceptance::WholeCargo, None);
         assert_eq!(prepared.words, harness_words("cargo test"));
         assert_eq!(prepared.variables, [(BOOTSTRAP, ACCEPT_OPTIONS.into())]);
         assert_eq!(prepared.message, Some(COST));
@@ -478,7 +510,7 @@ mod tests {
     #[test]
     fn another_format_is_left_to_the_user() {
         for command in ["cargo test -- --format terse", "cargo t -- --format=pretty"] {
-            assert_eq!(prepare(&words(command)).words, words(command));
+            assert_eq!(prepare(&words(command), None).words, words(command));
         }
     }
 
@@ -499,7 +531,7 @@ mod tests {
             ),
         ];
         for (command, wanted) in cases {
-            let prepared = prepare(&words(command));
+            let prepared = prepare(&words(command), None);
             assert_eq!(prepared.words, words(wanted));
             assert_eq!(prepared.variables[0], (NEXTEST_JSON, "1".into()));
         }
@@ -508,7 +540,7 @@ mod tests {
     #[test]
     fn another_command_is_unchanged() {
         for command in ["sh -c true", "cargo build", "cargo test --no-run"] {
-            assert_eq!(prepare(&words(command)).words, words(command));
+            assert_eq!(prepare(&words(command), None).words, words(command));
         }
     }
 }

@@ -1,5 +1,6 @@
-//! The test programs of a run. A file names them for the stand-ins.
+//! What the stand-ins of a run are told, in a file: the test programs, and which of their tests run how often.
 
+use super::failed_tests::FailedTests;
 use super::run_line::StartedProgram;
 use crate::program::{DEVICE_FAILED, Failure};
 use serde::{Deserialize, Serialize};
@@ -9,7 +10,7 @@ use std::io::{self, Seek, Write};
 use std::path::Path;
 use tempfile::{Builder, NamedTempFile};
 
-/// The variable that names the file of the test programs. Only stand-ins and cargo see it.
+/// The variable that names this file. Only stand-ins and cargo see it.
 pub const PROGRAMS: &str = "TEST_REPORT_PROGRAMS";
 
 /// How many bytes are written to the file before anything runs.
@@ -52,18 +53,56 @@ impl TestProgram {
     }
 }
 
-/// The file of the test programs, in the folder for temporary files. It is removed when this is dropped.
+/// What stand-ins are told. A part that is absent says nothing.
+#[derive(Clone, Debug, Default, PartialEq, Eq, Serialize, Deserialize)]
+#[serde(default)]
+pub struct Plan {
+    /// The test programs.
+    pub programs: Vec<TestProgram>,
+
+    /// The tests that run, or `None` if all do.
+    pub failed: Option<FailedTests>,
+
+    /// How often failed tests are run again.
+    pub retries: Retries,
+}
+
+/// How often failed tests are run again.
+#[derive(Clone, Copy, Debug, Default, PartialEq, Eq, Serialize, Deserialize)]
+pub struct Retries {
+    /// How often a test is run again, at most.
+    pub count: usize,
+
+    /// The most tests of a program that may have failed if some of them are run again.
+    pub most: usize,
+}
+
+impl Plan {
+    /// Returns what this stand-in is told. Without a file that is nothing.
+    pub fn given() -> Plan {
+        let file = env::var_os(PROGRAMS);
+        let plan = file.and_then(|file| read_plan(Path::new(&file)).ok());
+        plan.unwrap_or_default()
+    }
+
+    /// Returns the test program at a path, if it is named.
+    pub fn program_at(&self, path: &str) -> Option<&TestProgram> {
+        self.programs.iter().find(|program| program.path == path)
+    }
+}
+
+/// The file of a plan, in the folder for temporary files. It is removed when this is dropped.
 #[derive(Debug)]
 pub struct ProgramsFile(NamedTempFile);
 
 impl ProgramsFile {
-    /// Creates the file, and makes sure that programs can be written to it.
+    /// Creates the file, and makes sure that a plan can be written to it.
     ///
     /// Fails if they cannot.
     pub fn create() -> Result<ProgramsFile, Failure> {
         let create = || {
             let mut file = Builder::new().prefix("test-report.").tempfile()?;
-            // On a full device a file without bytes can be created. The programs are written over these spaces, and
+            // On a full device a file without bytes can be created. The plan is written over these spaces, and
             // JSON may have some after it.
             file.write_all(&[b' '; TRIED])?;
             file.rewind()?;
@@ -72,11 +111,11 @@ impl ProgramsFile {
         create().map_err(unwritten)
     }
 
-    /// Writes the test programs, once.
+    /// Writes the plan, once.
     ///
-    /// Fails if they cannot be written.
-    pub fn write(&mut self, programs: &[TestProgram]) -> Result<(), Failure> {
-        let bytes = serde_json::to_vec(programs).map_err(io::Error::from);
+    /// Fails if it cannot be written.
+    pub fn write(&mut self, plan: &Plan) -> Result<(), Failure> {
+        let bytes = serde_json::to_vec(plan).map_err(io::Error::from);
         bytes
             .and_then(|bytes| self.0.write_all(&bytes))
             .map_err(unwritten)
@@ -97,15 +136,8 @@ fn unwritten(error: io::Error) -> Failure {
     Failure::new(DEVICE_FAILED, message).caused_by(Some(error))
 }
 
-/// Returns the test program at a path, if the file that the variable names has it.
-pub fn program_at(path: &str) -> Option<TestProgram> {
-    let file = env::var_os(PROGRAMS)?;
-    let programs = read_programs(Path::new(&file)).ok()?;
-    programs.into_iter().find(|program| program.path == path)
-}
-
-/// Reads the file of the test programs.
-fn read_programs(file: &Path) -> io::Result<Vec<TestProgram>> {
+/// Reads the file of a plan.
+fn read_plan(file: &Path) -> io::Result<Plan> {
     Ok(serde_json::from_slice(&fs::read(file)?)?)
 }
 
@@ -123,17 +155,20 @@ mod tests {
             name: "money::it".into(),
             harness: false,
         };
-        let programs = [program.clone(), program];
+        let plan = Plan {
+            programs: vec![program.clone(), program.clone()],
+            failed: Some(FailedTests::default()),
+            retries: Retries { count: 2, most: 10 },
+        };
+        assert_eq!(plan.program_at("/a/it-1"), Some(&program));
+        assert_eq!(plan.program_at("/a/it"), None);
         let mut file = ProgramsFile::create().expect("the file can be created");
-        assert!(read_programs(file.path()).is_err(), "it has no programs");
-        file.write(&programs).expect("the file can be written");
+        assert!(read_plan(file.path()).is_err(), "it has no plan");
+        file.write(&plan).expect("the file can be written");
         let path = file.path().to_path_buf();
         let size = fs::metadata(&path).expect("the file is there").len();
         assert_eq!(size, 4096, "no more is written than was tried");
-        assert_eq!(
-            read_programs(&path).expect("the file can be read"),
-            programs
-        );
+        assert_eq!(read_plan(&path).expect("the file can be read"), plan);
         drop(file);
         assert!(!path.exists());
     }

@@ -85,7 +85,9 @@ impl Repeated {
 
     /// Forgets the lines of the build: from now on no line repeats one.
     pub fn clear(&mut self) {
-        *self = Repeated::default();
+        self.lines.clear();
+        self.words = CargoWords::Known;
+        self.is_quiet = false;
     }
 }
 

@@ -8,6 +8,7 @@ use serde_json::Value;
 use std::borrow::Cow;
 use std::fmt;
 use std::io;
+use std::time::Duration;
 
 /// The values of the member `type` of these lines.
 const TYPES: [&str; 2] = ["program", "command"];
@@ -28,6 +29,9 @@ pub enum RunLine<'a> {
 #[serde(tag = "event", rename_all = "lowercase")]
 pub enum ProgramLine<'a> {
     Started(StartedProgram<'a>),
+
+    /// Tests that were to run again are no longer in a program, which may not start.
+    Missing(MissingTests),
     Ended {
         #[serde(flatten)]
         end: ProcessEnd,
@@ -35,6 +39,31 @@ pub enum ProgramLine<'a> {
         /// The last of what the program wrote to standard error.
         stderr: Cow<'a, str>,
     },
+}
+
+/// Tests that a program no longer has.
+#[derive(Debug, Default, PartialEq, Eq, Serialize, Deserialize)]
+pub struct MissingTests {
+    /// The name of the program.
+    pub name: String,
+    pub tests: Vec<String>,
+
+    /// The documentation tests whose lines have moved.
+    #[serde(default, skip_serializing_if = "Vec::is_empty")]
+    pub moved: Vec<String>,
+
+    /// The documentation tests of the same items, which run in place of these.
+    #[serde(default, skip_serializing_if = "Vec::is_empty")]
+    pub instead: Vec<String>,
+}
+
+impl MissingTests {
+    /// Returns the tests of which a line says that they are missing, if it is such a line of this program.
+    pub fn read(line: &[u8]) -> Option<MissingTests> {
+        let event: Value = serde_json::from_slice(line).ok()?;
+        let is_missing = event["type"] == "program" && event["event"] == "missing";
+        serde_json::from_value(event).ok().filter(|_| is_missing)
+    }
 }
 
 /// A program that starts. What is not known is left out.
@@ -81,6 +110,10 @@ pub enum CommandLine {
         /// Why it failed, in the words of cargo or, if it was not started, of the system.
         #[serde(skip_serializing_if = "Option::is_none")]
         error: Option<String>,
+
+        /// For how many seconds its tests ran by the clock, unless it ran none.
+        #[serde(skip_serializing_if = "Option::is_none")]
+        time: Option<f64>,
     },
 }
 
@@ -119,6 +152,16 @@ impl RunLine<'_> {
     pub fn text(&self) -> io::Result<Vec<u8>> {
         Ok(serde_json::to_vec(self)?)
     }
+}
+
+/// Returns the member `time` of a line about the end of a command, if it is one of [`CommandLine::Ended`].
+pub fn time_in(line: &[u8]) -> Option<Duration> {
+    #[derive(Deserialize)]
+    struct Timed {
+        time: f64,
+    }
+    let Timed { time } = serde_json::from_slice(line).ok()?;
+    Duration::try_from_secs_f64(time).ok()
 }
 
 /// Returns true if a reader of the run takes a line as one that this program writes. `line` has no line feed.
@@ -244,11 +287,31 @@ mod tests {
     }
 
     #[test]
+    fn a_line_says_which_tests_are_missing() {
+        let missing = || MissingTests {
+            name: "money".into(),
+            tests: vec!["a \"b\"".into()],
+            ..MissingTests::default()
+        };
+        let text = r#"{"type":"program","event":"missing","name":"money","tests":["a \"b\""]}"#;
+        assert_text(RunLine::Program(ProgramLine::Missing(missing())), text);
+        assert_eq!(MissingTests::read(text.as_bytes()), Some(missing()));
+        assert_eq!(
+            MissingTests::read(text.replace("missing", "ended").as_bytes()),
+            None
+        );
+        assert_eq!(
+            MissingTests::read(text.replace("program", "test").as_bytes()),
+            None
+        );
+    }
+
+    #[test]
     fn the_lines_of_a_command_are_those_that_readers_know() {
         let cancelled = |cancelled| RunLine::Command(CommandLine::Cancelled { cancelled });
         let ended = |end, error: Option<&str>| {
-            let error = error.map(String::from);
-            RunLine::Command(CommandLine::Ended { end, error })
+            let (error, time) = (error.map(String::from), error.map(|_| 1.25));
+            RunLine::Command(CommandLine::Ended { end, error, time })
         };
         assert_text(
             RunLine::Command(CommandLine::Started),
@@ -264,13 +327,29 @@ mod tests {
         );
         assert_text(
             ended(Some(ProcessEnd::Status(101)), Some("error: a")),
-            r#"{"type":"command","event":"ended","status":101,"error":"error: a"}"#,
+            r#"{"type":"command","event":"ended","status":101,"error":"error: a","time":1.25}"#,
         );
         assert_text(
             ended(Some(ProcessEnd::Signal(15)), None),
             r#"{"type":"command","event":"ended","signal":15}"#,
         );
         assert_text(ended(None, None), r#"{"type":"command","event":"ended"}"#);
+    }
+
+    #[test]
+    fn the_time_of_a_command_is_that_of_its_end() {
+        let time = |line: &str| time_in(line.as_bytes());
+        let quarter = Duration::from_millis(1_250);
+        assert_eq!(time(r#"{"type":"command","time":1.25}"#), Some(quarter));
+        for line in [
+            r#"{"time":-1}"#,
+            r#"{"time":1e300}"#,
+            r#"{"time":"1"}"#,
+            "{}",
+            "1",
+        ] {
+            assert_eq!(time(line), None, "{line}");
+        }
     }
 
     #[test]

@@ -2,7 +2,7 @@
 
 use super::cargo::{CargoCommand, values_of};
 use super::conditions::holds;
-use super::stand_in::BOOTSTRAP;
+use super::harness::BOOTSTRAP;
 use serde_json::{Map, Value};
 use std::env;
 use std::ffi::OsString;
@@ -153,7 +153,7 @@ fn facts_of(cargo: &CargoCommand, target: &str) -> Option<String> {
 }
 
 /// Returns the arguments that give cargo the settings after its subcommand.
-fn config_arguments(own: &[OsString]) -> Vec<&str> {
+pub fn config_arguments(own: &[OsString]) -> Vec<&str> {
     let settings = values_of(own, "--config");
     settings
         .into_iter()
@@ -179,7 +179,7 @@ pub fn settings_of(before: &[OsString], own: &[OsString]) -> Option<Map<String, 
 }
 
 /// Runs the same cargo, with its arguments before the subcommand, for something else. Returns `None` if that fails.
-fn answer_of(before: &[OsString], arguments: &[&str]) -> Option<Output> {
+pub fn answer_of(before: &[OsString], arguments: &[&str]) -> Option<Output> {
     let (program, before) = before.split_first()?;
     let mut command = Command::new(program);
     command

@@ -5,17 +5,22 @@
 //! set for cargo, the packages whose build script watches it would be compiled anew. So cargo starts this program in
 //! place of each test program and of rustdoc, and this program sets the variable for these alone.
 
-use super::cargo::values_of;
-use super::programs::{PROGRAMS, program_at};
-use super::run_line::StartedProgram;
+use super::cargo_colors::CARGO_COLOR;
+use super::harness::{
+    ACCEPT_OPTIONS, BOOTSTRAP, HarnessArguments, TEST_ARGUMENT, Tested, missing_options,
+};
+use super::programs::{PROGRAMS, Plan, Retries};
+use super::retries::Retrying;
+use super::run_line::{MissingTests, ProgramLine, RunLine, StartedProgram};
 use super::system::{become_program, end_as};
 use super::watching::watch;
 use crate::program::Failure;
 use crate::standard_streams::{StandardError, StandardOutput};
 use std::borrow::Cow;
+use std::collections::HashSet;
 use std::env;
 use std::ffi::{OsStr, OsString};
-use std::io;
+use std::io::{self, Write};
 use std::path::Path;
 use std::process::{Command, ExitCode, exit};
 
@@ -26,12 +31,9 @@ pub const AS_RUNNER: &str = "--as-runner";
 /// for a first one of this program.
 pub const AS_RUSTDOC: &str = "TEST_REPORT_AS_RUSTDOC";
 
-/// The variable with which a stable toolchain's test harness accepts unstable options.
-pub const BOOTSTRAP: &str = "RUSTC_BOOTSTRAP";
-
-/// The value of that variable. It is not `1` and not the name of a crate, so the compiler still refuses unstable
-/// features, in documentation tests too.
-pub const ACCEPT_OPTIONS: &str = "test-report";
+/// The variable that is set for stand-ins if this program sets cargo's one for colours. It has the value that the user has
+/// given that one, or nothing.
+pub const USERS_COLOR: &str = "TEST_REPORT_CARGO_TERM_COLOR";
 
 /// The exit status if the test program or rustdoc cannot be started, as in a shell.
 const NOT_STARTED: u8 = 127;
@@ -42,11 +44,14 @@ const RUNNER_OPTIONS: [&str; 2] = ["--test-runtool", "--test-runtool-arg"];
 /// The option with which rustdoc runs documentation tests. In cargo's order the file follows that has them.
 const TEST: &str = "--test";
 
-/// The option of rustdoc before each argument of documentation tests.
-const TEST_ARGUMENT: &str = "--test-args";
-
 /// The variable in which cargo names the package of a program that it starts.
 const PACKAGE: &str = "CARGO_PKG_NAME";
+
+/// The option of the harness with which ignored tests run, too.
+const INCLUDE_IGNORED: &str = "--include-ignored";
+
+/// The option of the harness before the file to which it writes the results, and that it makes empty first.
+const LOG_FILE: &str = "--logfile";
 
 /// The arguments with which a harness lists something and runs no test.
 const LISTS: [&str; 3] = ["--list", "--help", "-h"];
@@ -66,9 +71,9 @@ pub fn stand_in(arguments: &[OsString]) -> Option<Result<ExitCode, Failure>> {
 /// Runs a test program with these arguments, and ends as it did. A program with a harness of its own gets no more than
 /// these.
 fn run_program(path: &OsStr, arguments: &[OsString]) -> Result<ExitCode, Failure> {
+    let plan = Plan::given();
     let shown = path.to_string_lossy();
-    let known = program_at(&shown);
-    let program = match &known {
+    let program = match plan.program_at(&shown) {
         Some(program) => program.started(),
         None => StartedProgram {
             package: package(),
@@ -78,15 +83,118 @@ fn run_program(path: &OsStr, arguments: &[OsString]) -> Result<ExitCode, Failure
             ..StartedProgram::default()
         },
     };
-    let mut command = command_of(path);
-    if program.harness {
-        command
-            .args(missing_options(arguments))
-            .env(BOOTSTRAP, ACCEPT_OPTIONS);
-    }
-    command.args(arguments);
     let list = is_list(arguments);
-    watch_to_end(command, StartedProgram { list, ..program })
+    let program = StartedProgram { list, ..program };
+    if program.harness {
+        return run_tests(&plan, &Tested::Program(path), arguments, program);
+    }
+    if is_left_out(&plan, &program) {
+        return Ok(ExitCode::SUCCESS);
+    }
+    let mut command = command_of(path);
+    command.args(arguments);
+    watch_to_end(command, program, None, plan.retries)
+}
+
+/// Returns true if nothing of a program is to run.
+fn is_left_out(plan: &Plan, program: &StartedProgram) -> bool {
+    let failed = plan.failed.as_ref();
+    let left = failed
+        .zip(program.name.as_deref())
+        .map(|(failed, name)| failed.left_of(name));
+    left == Some(None)
+}
+
+/// Runs the tests of a program that are to run, with these arguments of the harness, and ends as it did. If there are none,
+/// the program is not started.
+fn run_tests(
+    plan: &Plan,
+    tested: &Tested,
+    given: &[OsString],
+    program: StartedProgram,
+) -> Result<ExitCode, Failure> {
+    let Some(selected) = selected_by(plan, tested, given, &program) else {
+        return Ok(ExitCode::SUCCESS);
+    };
+    let missing = missing_options(&selected).map(OsString::from);
+    let arguments: Vec<_> = missing.chain(selected.iter().cloned()).collect();
+    let command = tested.command(command_of, &arguments);
+    let options = HarnessArguments::of(&divided(tested, &arguments));
+    let options = without_log_file(options.options());
+    let retrying = Retrying::new(plan.retries, tested, &options, &command_of);
+    watch_to_end(command, program, Some(&retrying), plan.retries)
+}
+
+/// Returns the arguments of the harness with which those tests run that failed last and that the user's arguments select,
+/// or `None` if there are none. If all tests are to run, if the name of the program is not known, if it does not name its
+/// tests, or if the arguments would be too long, these are the user's arguments.
+fn selected_by(
+    plan: &Plan,
+    tested: &Tested,
+    given: &[OsString],
+    program: &StartedProgram,
+) -> Option<Vec<OsString>> {
+    let (Some(failed), Some(name)) = (&plan.failed, &program.name) else {
+        return Some(given.to_vec());
+    };
+    let left = failed.left_of(name)?;
+    let Some(tests) = tested.tests(command_of, false) else {
+        return Some(given.to_vec());
+    };
+    let tests: Vec<_> = tests.iter().map(String::as_str).collect();
+    let arguments = HarnessArguments::of(&divided(tested, given));
+    let mut selected = arguments.options().to_vec();
+    if !arguments.mention_ignored() && left.has_ignored(|| tested.tests(command_of, true)) {
+        selected.push(INCLUDE_IGNORED.into());
+    }
+    let missing = left.missing(name, &tests);
+    let instead: HashSet<_> = missing.instead.iter().map(String::as_str).collect();
+    let is_selected =
+        |test: &&str| (left.has(test) || instead.contains(test)) && arguments.select(test);
+    let (wanted, others): (Vec<_>, Vec<_>) = tests.into_iter().partition(is_selected);
+    say_missing(missing);
+    if wanted.is_empty() {
+        return None;
+    }
+    if others.is_empty() {
+        return Some(selected);
+    }
+    let Some(words) = tested.selecting(&wanted, &others) else {
+        return Some(given.to_vec());
+    };
+    selected.extend(words);
+    Some(selected)
+}
+
+/// Writes a line about the tests that a program no longer has, if there are some.
+fn say_missing(missing: MissingTests) {
+    if missing.tests.is_empty() && missing.moved.is_empty() {
+        return;
+    }
+    let missing = ProgramLine::Missing(missing);
+    let mut output = StandardOutput::lock();
+    // If nobody reads it, it is not needed.
+    let _ = RunLine::Program(missing)
+        .text()
+        .and_then(|text| output.write_all(&[text.as_slice(), b"\n"].concat()))
+        .and_then(|()| output.flush());
+}
+
+/// Returns arguments of the harness as it gets them: rustdoc divides them at white space.
+fn divided(tested: &Tested, arguments: &[OsString]) -> Vec<OsString> {
+    match tested {
+        Tested::Program(_) => arguments.to_vec(),
+        Tested::Documentation(_) => {
+            let texts = arguments.iter().map(|word| word.to_string_lossy());
+            texts
+                .flat_map(|text| {
+                    text.split_whitespace()
+                        .map(OsString::from)
+                        .collect::<Vec<_>>()
+                })
+                .collect()
+        }
+    }
 }
 
 /// Returns the name of the target that a test program was built from, by its path: cargo adds `-` and 16 digits to it.
@@ -100,19 +208,16 @@ fn target_of(path: &OsStr) -> Option<Cow<'_, str>> {
 
 /// Runs rustdoc with these arguments, and ends as it did.
 fn run_rustdoc(arguments: &[OsString]) -> Result<ExitCode, Failure> {
-    let mut command = command_of("rustdoc".as_ref());
-    command
-        .args(without_runner(arguments))
-        .args(missing_test_arguments(arguments))
-        .env(BOOTSTRAP, ACCEPT_OPTIONS);
     if !runs_tests(arguments) {
+        let mut command = command_of("rustdoc".as_ref());
+        command.args(without_runner(arguments));
+        command.env(BOOTSTRAP, ACCEPT_OPTIONS);
         let error = become_program(command);
         return Err(not_started("rustdoc", error));
     }
     let package = package();
-    let name = package
-        .as_ref()
-        .map(|it| format!("{it} (doc tests)").into());
+    let name = package.as_deref().map(|it| documentation_of(it).into());
+    let given = test_arguments(arguments);
     let program = StartedProgram {
         package,
         target: value_after(arguments, "--crate-name"),
@@ -120,22 +225,55 @@ fn run_rustdoc(arguments: &[OsString]) -> Result<ExitCode, Failure> {
         path: value_after(arguments, TEST),
         name,
         harness: true,
-        list: is_list(&test_arguments(arguments)),
+        list: is_list(&given),
     };
-    watch_to_end(command, program)
+    let own = without(&RUNNER_OPTIONS, arguments.iter());
+    let own = without(&[TEST_ARGUMENT], own).map(OsString::as_os_str);
+    let tested = Tested::Documentation(own.collect());
+    run_tests(&Plan::given(), &tested, &given, program)
 }
 
-/// Returns a program for the system. It does not see the variables that are for stand-ins alone.
+/// Returns the name of the documentation tests of a package.
+pub fn documentation_of(package: &str) -> String {
+    format!("{package} (doc tests)")
+}
+
+/// Returns a program for the system. It does not see the variables that are for stand-ins and for cargo alone.
 fn command_of(program: &OsStr) -> Command {
     let mut command = Command::new(program);
-    command.env_remove(AS_RUSTDOC).env_remove(PROGRAMS);
+    match env::var_os(USERS_COLOR) {
+        None => {}
+        Some(color) if color.is_empty() => {
+            command.env_remove(CARGO_COLOR);
+        }
+        Some(color) => {
+            command.env(CARGO_COLOR, color);
+        }
+    }
+    for name in [AS_RUSTDOC, PROGRAMS, USERS_COLOR] {
+        command.env_remove(name);
+    }
     command
 }
 
-/// Runs a program, writes what it sees of it, and ends as it did.
-fn watch_to_end(mut command: Command, program: StartedProgram) -> Result<ExitCode, Failure> {
+/// Runs a program, writes what it sees of it, and ends as it did. Failed tests run again if `retrying` says how.
+fn watch_to_end(
+    mut command: Command,
+    program: StartedProgram,
+    retrying: Option<&Retrying>,
+    retries: Retries,
+) -> Result<ExitCode, Failure> {
     let (output, errors) = (StandardOutput::lock(), StandardError::get());
-    match watch(&mut command, program, output, errors) {
+    // If stand-ins hold lines back, these go before the line about Ctrl-C, and so only stand-ins know its place.
+    let says_interrupt = retries.count > 0;
+    match watch(
+        &mut command,
+        program,
+        retrying,
+        says_interrupt,
+        output,
+        errors,
+    ) {
         Ok(status) => exit(end_as(status)),
         Err(error) => {
             let name = command.get_program().display().to_string();
@@ -174,38 +312,30 @@ fn runs_tests(arguments: &[OsString]) -> bool {
 /// Returns the arguments of rustdoc without a runner. Documentation tests need none: they inherit the variable from
 /// rustdoc, which runs them in other ways if there is a runner.
 fn without_runner(arguments: &[OsString]) -> impl Iterator<Item = &OsString> {
-    let is_option = |word: &OsString| RUNNER_OPTIONS.iter().any(|option| word == option);
+    without(&RUNNER_OPTIONS, arguments.iter())
+}
+
+/// Returns arguments without some options and the value after each of them.
+fn without<'a>(
+    options: &[&str],
+    arguments: impl Iterator<Item = &'a OsString>,
+) -> impl Iterator<Item = &'a OsString> {
     let mut previous_is_option = false;
-    arguments.iter().filter(move |word| {
-        let is_left_out = is_option(word) || previous_is_option;
-        previous_is_option = is_option(word) && !previous_is_option;
+    arguments.filter(move |word| {
+        let is_option = !previous_is_option && options.iter().any(|option| *word == option);
+        let is_left_out = is_option || previous_is_option;
+        previous_is_option = is_option;
         !is_left_out
     })
 }
 
-/// Returns the options of the harness that are needed and that the user has not given.
-pub fn missing_options(harness: &[OsString]) -> impl Iterator<Item = &'static str> {
-    let has = |name: &str, wanted: &str| values_of(harness, name).contains(&wanted);
-    let is_given = |word: &str| harness.iter().any(|it| it == word);
-    let unstable = has("-Z", "unstable-options") || is_given("-Zunstable-options");
-    let needed: [(bool, &[&str]); 3] = [
-        (unstable, &["-Z", "unstable-options"]),
-        (has("--format", "json"), &["--format", "json"]),
-        (is_given("--report-time"), &["--report-time"]),
-    ];
-    let missing = needed.into_iter().filter(|(is_given, _)| !is_given);
-    missing.flat_map(|(_, words)| words.iter().copied())
-}
-
-/// Returns the arguments of rustdoc by which documentation tests get the options of the harness that they lack. Returns
-/// none if rustdoc runs no tests.
-fn missing_test_arguments(arguments: &[OsString]) -> Vec<&'static str> {
-    if !runs_tests(arguments) {
-        return Vec::new();
-    }
-    let given = test_arguments(arguments);
-    let missing = missing_options(&given);
-    missing.flat_map(|word| [TEST_ARGUMENT, word]).collect()
+/// Returns options of the harness without the file to which it writes the results.
+fn without_log_file(options: &[OsString]) -> Vec<OsString> {
+    let with_value = format!("{LOG_FILE}=");
+    without(&[LOG_FILE], options.iter())
+        .filter(|word| !word.to_string_lossy().starts_with(&with_value))
+        .cloned()
+        .collect()
 }
 
 /// Returns the arguments that rustdoc passes to documentation tests.
@@ -245,17 +375,6 @@ mod tests {
     }
 
     #[test]
-    fn documentation_tests_get_each_option_that_is_missing() {
-        let words =
-            |text: &str| -> Vec<OsString> { text.split_whitespace().map(OsString::from).collect() };
-        let given = words("--test a.rs --test-args --format=json --test-args one");
-        let wanted = words("--test-args -Z --test-args unstable-options --test-args --report-time");
-        assert_eq!(missing_test_arguments(&given), wanted);
-        let given = words("--crate-name a --test-args one");
-        assert!(missing_test_arguments(&given).is_empty());
-    }
-
-    #[test]
     fn a_harness_that_lists_something_runs_no_test() {
         let words =
             |text: &str| -> Vec<OsString> { text.split_whitespace().map(OsString::from).collect() };
@@ -267,6 +386,16 @@ mod tests {
             "--test --test-args --list"
         ))));
         assert!(!is_list(&test_arguments(&words("--list --test-args a"))));
+    }
+
+    #[test]
+    fn a_test_that_runs_again_leaves_the_file_of_results_alone() {
+        let words = |text: &str| -> Vec<_> { text.split(' ').map(OsString::from).collect() };
+        let given = "--logfile a --ignored --logfile=b --color never --logfiles";
+        assert_eq!(
+            without_log_file(&words(given)),
+            words("--ignored --color never --logfiles")
+        );
     }
 
     #[test]

@@ -1,8 +1,12 @@
 //! Starts a test program, stays, and writes what it sees of it, in lines of a run.
 
 use super::end::process_end;
+use super::held_ends::HeldEnds;
 use super::last_output::LastOutput;
-use super::run_line::{ProgramLine, RunLine, StartedProgram, is_run_line};
+use super::retries::{Retrying, write_line};
+use super::run_line::{
+    CancelledBy, CommandLine, ProgramLine, RunLine, StartedProgram, is_run_line,
+};
 use super::running::{PATIENCE, RunningCommand};
 use super::system::Signals;
 use crate::lines::Lines;
@@ -21,7 +25,11 @@ const FIRST_LOOK: Duration = Duration::from_millis(1);
 const BUFFER: usize = 65_536;
 
 /// Runs a program, and writes to `output` what it sees of it: that it starts, each line of its standard output, and how it
-/// ended. What the program writes to standard error goes to `errors` at once. Returns how the program ended.
+/// ended. What the program writes to standard error goes to `errors` at once. If `retrying` says so, its failed tests run
+/// again at its end. Returns how the program ended, or how it would have with the results after that.
+///
+/// If a signal comes, nothing runs again, and what waited for that is written at once. If `says_interrupt` is true, a line
+/// after it says that Ctrl-C has come.
 ///
 /// If nobody reads `output` any more, the program has no reader either. If nobody needs this process any more, the program
 /// and what it leaves behind are asked to end, and killed if they do not.
@@ -30,80 +38,100 @@ const BUFFER: usize = 65_536;
 pub fn watch(
     command: &mut Command,
     program: StartedProgram,
+    retrying: Option<&Retrying>,
+    says_interrupt: bool,
     output: impl Write,
     errors: impl Write,
 ) -> io::Result<ExitStatus> {
     let signals = Signals::catch()?;
-    let (running, stdout, stderr) = RunningCommand::start_apart(command)?;
-    let mut running = Watched::new(running, signals);
-    let streams = ProcessStreams::start([
-        (Stream::Output, Box::new(stdout)),
-        (Stream::Error, Box::new(stderr)),
-    ])?;
-    let mut writer = RunWriter::new(output, errors);
+    let mut running = Watched::start(command, &signals)?;
+    let held = retrying.map(Retrying::held_ends).unwrap_or_default();
+    let mut writer = RunWriter::new(output, errors, held, &signals, says_interrupt);
     let written = writer
         .write_own_line(&RunLine::Program(ProgramLine::Started(program)))
-        .and_then(|()| pass_on(streams, &mut running, &mut writer));
-    let status = wait_for(&mut running)?;
+        .and_then(|()| running.read(|stream, piece| writer.take(stream, piece)));
+    let mut status = running.wait()?;
     if written.is_ok() {
         // If nobody reads it, it is not needed.
-        let _ = writer.end(status);
+        status = writer.end(status, retrying).unwrap_or(status);
     }
     running.wait_for_orphans();
     Ok(status)
 }
 
-/// Passes on what a program writes, until its streams end or it is over.
-///
-/// Fails if the output cannot be written.
-fn pass_on(
-    mut streams: ProcessStreams,
-    running: &mut Watched,
-    writer: &mut RunWriter<impl Write, impl Write>,
-) -> io::Result<()> {
-    while !streams.are_over(Instant::now()) {
-        // A stream that cannot be read is at its end.
-        if let Ok(Some((stream, piece))) = streams.next_piece(LOOK) {
-            writer.take(stream, &piece)?;
-        }
-        running.pass_end_on();
-        if running.status()?.is_some() {
-            streams.note_end(Instant::now());
-        }
-    }
-    Ok(())
-}
-
-/// Waits for the end of a program whose streams have ended.
-fn wait_for(running: &mut Watched) -> io::Result<ExitStatus> {
-    let mut pause = FIRST_LOOK;
-    loop {
-        if let Some(status) = running.status()? {
-            return Ok(status);
-        }
-        thread::sleep(pause);
-        pause = LOOK.min(2 * pause);
-        running.pass_end_on();
-    }
-}
-
 /// A program, and what may ask it to end.
-struct Watched {
+pub struct Watched<'a> {
     program: RunningCommand,
-    signals: Signals,
+    streams: Option<ProcessStreams>,
+    signals: &'a Signals,
 
     /// When Ctrl-C came. On a terminal it reaches the program by itself.
     interrupted: Option<Instant>,
+
+    /// True if the program was asked to end.
+    is_asked: bool,
 }
 
-impl Watched {
-    /// Returns a program that nothing has asked to end.
-    fn new(program: RunningCommand, signals: Signals) -> Watched {
-        Watched {
+impl<'a> Watched<'a> {
+    /// Starts a program.
+    ///
+    /// Fails if it cannot be started.
+    pub fn start(command: &mut Command, signals: &'a Signals) -> io::Result<Watched<'a>> {
+        let (program, stdout, stderr) = RunningCommand::start_apart(command)?;
+        let streams = ProcessStreams::start([
+            (Stream::Output, Box::new(stdout)),
+            (Stream::Error, Box::new(stderr)),
+        ])?;
+        Ok(Watched {
             program,
+            streams: Some(streams),
             signals,
             interrupted: None,
+            is_asked: false,
+        })
+    }
+
+    /// Passes on what the program writes, until its streams end or it is over. Then they have no reader. A piece is empty
+    /// if nothing came for a moment.
+    ///
+    /// Fails if `take` does.
+    pub fn read(
+        &mut self,
+        mut take: impl FnMut(Stream, &[u8]) -> io::Result<()>,
+    ) -> io::Result<()> {
+        let Some(mut streams) = self.streams.take() else {
+            return Ok(());
+        };
+        while !streams.are_over(Instant::now()) {
+            // A stream that cannot be read is at its end.
+            let piece = streams.next_piece(LOOK).ok().flatten();
+            let (stream, piece) = piece.unwrap_or((Stream::Output, Vec::new()));
+            take(stream, &piece)?;
+            self.pass_end_on();
+            if self.status()?.is_some() {
+                streams.note_end(Instant::now());
+            }
         }
+        Ok(())
+    }
+
+    /// Waits for the end of the program. From now on nobody reads its streams.
+    pub fn wait(&mut self) -> io::Result<ExitStatus> {
+        self.streams = None;
+        let mut pause = FIRST_LOOK;
+        loop {
+            if let Some(status) = self.status()? {
+                return Ok(status);
+            }
+            thread::sleep(pause);
+            pause = LOOK.min(2 * pause);
+            self.pass_end_on();
+        }
+    }
+
+    /// Returns true if the program was asked to end.
+    pub fn was_asked_to_end(&self) -> bool {
+        self.is_asked
     }
 
     /// Returns the status with which the program ended, or `None` if it runs.
@@ -124,8 +152,10 @@ impl Watched {
             .is_some_and(|since| since.elapsed() < PATIENCE);
         if !ends_by_itself && self.signals.is_left_alone() {
             // SIGTERM that comes then is not sent on: the program was asked.
+            self.is_asked = true;
             self.program.terminate_all();
         } else if self.signals.take_terminate() {
+            self.is_asked = true;
             self.program.terminate();
         }
         self.program.end_all();
@@ -141,45 +171,59 @@ impl Watched {
 }
 
 /// Writes what a stand-in sees of its program.
-struct RunWriter<O: Write, E> {
+struct RunWriter<'a, O: Write, E> {
     output: BufWriter<O>,
     errors: E,
+    signals: &'a Signals,
+
+    /// True if a line is to say that Ctrl-C has come, and none does.
+    says_interrupt: bool,
 
     /// The line of standard output that has begun.
     lines: Lines,
+
+    /// The lines that wait for retries.
+    held: HeldEnds,
 
     /// What came last to standard error.
     last: LastOutput,
 }
 
-impl<O: Write, E: Write> RunWriter<O, E> {
+impl<'a, O: Write, E: Write> RunWriter<'a, O, E> {
     /// Returns a writer that has written nothing.
-    fn new(output: O, errors: E) -> RunWriter<O, E> {
+    fn new(
+        output: O,
+        errors: E,
+        held: HeldEnds,
+        signals: &'a Signals,
+        says_interrupt: bool,
+    ) -> RunWriter<'a, O, E> {
         RunWriter {
             output: BufWriter::with_capacity(BUFFER, output),
             errors,
+            signals,
+            says_interrupt,
             lines: Lines::default(),
+            held,
             last: LastOutput::default(),
         }
     }
 
     /// Writes a line of its own.
     fn write_own_line(&mut self, line: &RunLine) -> io::Result<()> {
-        let mut text = line.text()?;
-        text.push(b'\n');
-        self.output.write_all(&text)?;
-        self.output.flush()
+        write_own_line(&mut self.output, line)
     }
 
     /// Takes what the program wrote next to a stream.
     ///
     /// Fails if the output cannot be written.
     fn take(&mut self, stream: Stream, piece: &[u8]) -> io::Result<()> {
+        self.note_signal()?;
         match stream {
             Stream::Output => {
-                let (output, errors) = (&mut self.output, &mut self.errors);
+                let (output, errors, held) = (&mut self.output, &mut self.errors, &mut self.held);
                 self.lines
-                    .take(piece, |line| pass_line_on(line, output, errors))?;
+                    .take(piece, |line| pass_line_on(line, held, output, errors))?;
                 self.output.flush()
             }
             Stream::Error => {
@@ -191,33 +235,70 @@ impl<O: Write, E: Write> RunWriter<O, E> {
         }
     }
 
-    /// Writes a last line that has no line feed, and how the program ended.
+    /// If a signal has come, writes what waits, and then that Ctrl-C has come: less is shown of the tests that end after it.
+    fn note_signal(&mut self) -> io::Result<()> {
+        if self.signals.are_end() {
+            let output = &mut self.output;
+            self.held.release(|line| write_line(output, line))?;
+        }
+        if self.signals.is_interrupted() && mem::take(&mut self.says_interrupt) {
+            let cancelled = CancelledBy::Interrupt;
+            self.write_own_line(&RunLine::Command(CommandLine::Cancelled { cancelled }))?;
+        }
+        Ok(())
+    }
+
+    /// Writes a last line that has no line feed, runs failed tests again, and writes how the program ended. Returns that.
     ///
     /// Fails if the output cannot be written.
-    fn end(mut self, status: ExitStatus) -> io::Result<()> {
+    fn end(mut self, status: ExitStatus, retrying: Option<&Retrying>) -> io::Result<ExitStatus> {
+        self.note_signal()?;
+        let (output, errors) = (&mut self.output, &mut self.errors);
         if let Some(line) = self.lines.end() {
-            pass_line_on(&line, &mut self.output, &mut self.errors)?;
+            pass_line_on(&line, &mut self.held, output, errors)?;
         }
+        let status = match retrying {
+            Some(retrying) => {
+                let held = mem::take(&mut self.held);
+                retrying.finish(held, status, self.signals, output, errors)?
+            }
+            None => status,
+        };
+        self.note_signal()?;
         let stderr = mem::take(&mut self.last).into_text();
-        self.write_own_line(&RunLine::Program(ProgramLine::Ended {
+        let ended = RunLine::Program(ProgramLine::Ended {
             end: process_end(status),
             stderr: stderr.into(),
-        }))
+        });
+        self.write_own_line(&ended)?;
+        Ok(status)
     }
 }
 
-/// Writes a line of a program's standard output, and its line feed. A line that a reader would take as one of this program
-/// goes to `errors`.
+/// Writes a line of this program, and its line feed.
+fn write_own_line(output: &mut impl Write, line: &RunLine) -> io::Result<()> {
+    let mut text = line.text()?;
+    text.push(b'\n');
+    output.write_all(&text)?;
+    output.flush()
+}
+
+/// Writes a line of a program's standard output, and its line feed, unless it waits among the lines `held`. A line that a
+/// reader would take as one of this program goes to `errors`.
 ///
 /// Fails if `output` cannot be written.
-fn pass_line_on(line: &[u8], output: &mut impl Write, errors: &mut impl Write) -> io::Result<()> {
+fn pass_line_on(
+    line: &[u8],
+    held: &mut HeldEnds,
+    output: &mut impl Write,
+    errors: &mut impl Write,
+) -> io::Result<()> {
     if is_run_line(line) {
         // If nobody reads it, the program goes on as if somebody did.
         let _ = errors.write_all(&[line, b"\n"].concat());
         return Ok(());
     }
-    output.write_all(line)?;
-    output.write_all(b"\n")
+    held.take(line, |line| write_line(output, line))
 }
 
 #[cfg(all(test, unix))]
@@ -235,7 +316,8 @@ mod tests {
             harness: true,
             ..StartedProgram::default()
         };
-        watch(&mut command, program, &mut output, &mut errors).expect("a shell starts");
+        watch(&mut command, program, None, false, &mut output, &mut errors)
+            .expect("a shell starts");
         let output = String::from_utf8(output).expect("the output is UTF-8");
         let errors = String::from_utf8_lossy(&errors).into_owned();
         let first = "{\"type\":\"program\",\"event\":\"started\"}\n";
@@ -315,7 +397,8 @@ mod tests {
         let mut command = Command::new("sh");
         command.args(["-c", "while echo a; do :; done"]);
         let program = StartedProgram::default();
-        let status = watch(&mut command, program, Gone, io::sink()).expect("a shell starts");
+        let status =
+            watch(&mut command, program, None, false, Gone, io::sink()).expect("a shell starts");
         // The shell ends by SIGPIPE.
         assert_eq!(status.signal(), Some(13));
     }
@@ -326,7 +409,7 @@ mod tests {
         let mut command = Command::new("sh");
         command.args(["-c", "echo x >&2; echo a"]);
         let program = StartedProgram::default();
-        watch(&mut command, program, &mut output, Gone).expect("a shell starts");
+        watch(&mut command, program, None, false, &mut output, Gone).expect("a shell starts");
         let text = String::from_utf8(output).expect("the output is UTF-8");
         assert!(text.contains("\na\n") && text.contains(r#""stderr":"x\n""#));
     }

@@ -1,7 +1,7 @@
 //! Entries: what the forms take.
 
 use crate::report::build::FailedTarget;
-use crate::report::failure::ShownFailure;
+use crate::report::failure::{FailureTexts, ShownFailure};
 use crate::report::options::Options;
 use crate::report::problem::Problem;
 use crate::report::stopped::StoppedTests;
@@ -39,12 +39,12 @@ pub(crate) enum Entry<'a> {
 
 impl<'a> Entry<'a> {
     /// Returns the entry of a note, or `None` if no form shows it: that the run was cancelled is shown once, at its end.
-    /// `stopped` are the tests that became known as stopped at the same time, and `panics` is what was printed of the panics
-    /// of a test whose output was not captured. Of the options it uses only `limit` and `output`.
+    /// `stopped` are the tests that became known as stopped at the same time, and `texts` those of the failed test of the note.
+    /// Of the options it uses only `limit`, `output`, `raw` and `color`.
     pub(crate) fn of(
         note: &'a Note,
         stopped: &StoppedTests<'_>,
-        panics: &'a str,
+        texts: &'a FailureTexts<'a>,
         options: Options,
     ) -> Option<Entry<'a>> {
         let entry = match note {
@@ -53,7 +53,7 @@ impl<'a> Entry<'a> {
                 TestOutcome::Skipped { .. } => Entry::Skipped(test),
                 TestOutcome::Stopped => Entry::Stopped(test),
                 TestOutcome::Failed(failure) => {
-                    Entry::Failed(ShownFailure::of(test, failure, panics, options))
+                    Entry::Failed(ShownFailure::of(test, failure, texts, options))
                 }
             },
             Note::Flaky(test) => Entry::Flaky(test),

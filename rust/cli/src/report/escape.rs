@@ -1,6 +1,8 @@
-//! How texts of the input are shown: control characters, characters that change the direction of writing, and what a
-//! CI system takes for a command become escapes such as `\u{1b}`.
+//! How texts of the input are shown: control characters and characters that change the direction of writing become
+//! escapes such as `\u{1b}`. In documents so does what a CI system takes for a command, because they may be written to
+//! its log. In a text for people the type of the text does that.
 
+use crate::report::colours::without_colours;
 use crate::report::lines::without_returns;
 use crate::template::shown::{is_escaped, push_escape};
 use std::borrow::Cow;
@@ -11,21 +13,25 @@ const NAME_LIMIT: usize = 1_024;
 /// What follows a text that is cut.
 const CUT: &str = "..";
 
+/// Which characters become escapes.
+#[derive(Clone, Copy, PartialEq, Eq)]
+enum Escaped {
+    /// All control characters, and those that change the direction of writing.
+    InLine,
+
+    /// The same except tabs and line feeds, and what a CI system takes for a command.
+    InDocument,
+}
+
 /// Returns the name of a suite, a test or a file as it is shown: at most its first 1,024 bytes, cut at a character, and
 /// `..` if it is longer.
 pub(crate) fn name(name: &str) -> String {
-    let mut text = String::new();
-    push_name(&mut text, name);
-    text
+    line(&shortened(name, NAME_LIMIT))
 }
 
-/// Appends a name as it is shown.
-pub(crate) fn push_name(text: &mut String, name: &str) {
-    let shown = front(name, NAME_LIMIT);
-    push_escaped(text, shown, true);
-    if shown.len() < name.len() {
-        text.push_str(CUT);
-    }
+/// Returns the same in a document.
+pub(crate) fn name_in_document(shown: &str) -> String {
+    text(&name(shown))
 }
 
 /// Returns at most the first `limit` bytes of a text, cut at a character, and `..` if it is longer.
@@ -40,17 +46,19 @@ pub(crate) fn shortened(text: &str, limit: usize) -> Cow<'_, str> {
 
 /// Returns a text as one line. All control characters are escapes.
 pub(crate) fn line(line: &str) -> String {
-    escaped(line, true)
+    escaped(line, Escaped::InLine)
 }
 
-/// Returns a text of one or several lines. Its control characters except tabs and line feeds are escapes.
+/// Returns a text of one or several lines in a document. Its control characters except tabs and line feeds are escapes,
+/// and so is what a CI system takes for a command.
 pub(crate) fn text(text: &str) -> String {
-    escaped(text, false)
+    escaped(text, Escaped::InDocument)
 }
 
-/// Returns a text of the input whole, as it is shown, without the carriage returns that are right before a line feed.
+/// Returns a text of the input in a document, whole, without colours and without the carriage returns that are right
+/// before a line feed.
 pub(crate) fn whole_text(whole: &str) -> String {
-    text(&without_returns(whole))
+    text(&without_returns(&without_colours(whole)))
 }
 
 /// Returns at most the first `limit` bytes of a text, cut at a character.
@@ -58,35 +66,28 @@ pub(crate) fn front(text: &str, limit: usize) -> &str {
     &text[..text.floor_char_boundary(limit)]
 }
 
-/// Appends a text of one or several lines. Its control characters except tabs and line feeds are escapes.
-pub(crate) fn push_text(text: &mut String, shown: &str) {
-    push_escaped(text, shown, false);
-}
-
 /// Returns a text with its escapes.
-fn escaped(shown: &str, is_one_line: bool) -> String {
-    let mut text = String::with_capacity(shown.len());
-    push_escaped(&mut text, shown, is_one_line);
-    text
-}
-
-/// Appends a text with its escapes. In a text of one line, tabs and line feeds are escapes, too.
-fn push_escaped(text: &mut String, shown: &str, is_one_line: bool) {
+fn escaped(shown: &str, escaped: Escaped) -> String {
     if is_plain(shown) {
-        text.push_str(shown);
-        return;
+        return shown.to_string();
     }
+    let mut text = String::with_capacity(shown.len());
     let mut is_front = true;
     let mut rest = shown.chars();
     while let Some(c) = rest.next() {
-        let is_control = (is_one_line && matches!(c, '\t' | '\n')) || is_escaped(c);
-        if is_control || begins_command(c, rest.as_str(), is_front) {
-            push_escape(text, c);
+        let is_escape = is_escaped(c)
+            || match escaped {
+                Escaped::InLine => matches!(c, '\t' | '\n'),
+                Escaped::InDocument => begins_command(c, rest.as_str(), is_front),
+            };
+        if is_escape {
+            push_escape(&mut text, c);
         } else {
             text.push(c);
         }
         is_front = c == '\n' || (is_front && c.is_whitespace());
     }
+    text
 }
 
 /// Returns true if a text has nothing but printable ASCII characters, no `#`, and no colon at its front. Such a
@@ -109,4 +110,42 @@ pub(crate) fn completes_command(rest: &str) -> bool {
     ["#[", "#vso[", "#teamcity["]
         .iter()
         .any(|mark| rest.starts_with(mark))
+}
+
+#[cfg(test)]
+mod tests {
+    use super::*;
+
+    #[test]
+    fn control_characters_are_escapes() {
+        let input = "a\tb\nc\r\u{1b}[0m\u{9b}\u{85}\u{202e}\u{2028}é::##[x]";
+        let shown = |tab, feed| {
+            format!("a{tab}b{feed}c\\u{{d}}\\u{{1b}}[0m\\u{{9b}}\\u{{85}}\\u{{202e}}\u{2028}é::")
+        };
+        assert_eq!(line(input), shown("\\u{9}", "\\u{a}") + "##[x]");
+        assert_eq!(text(input), shown("\t", "\n") + "\\u{23}#[x]");
+    }
+
+    #[test]
+    fn a_document_has_no_command() {
+        for (input, wanted) in [
+            ("::error::a", "\\u{3a}:error::a"),
+            (" \u{3000}: a\n\t::b", " \u{3000}\\u{3a} a\n\t\\u{3a}:b"),
+            ("a ::b", "a ::b"),
+            ("a##vso[b", "a\\u{23}#vso[b"),
+            ("###[##teamcity[", "#\\u{23}#[\\u{23}#teamcity["),
+            ("##a[# #[", "##a[# #["),
+        ] {
+            assert_eq!(text(input), wanted);
+        }
+    }
+
+    #[test]
+    fn a_long_name_is_cut_at_a_character() {
+        let long = "€".repeat(342);
+        assert_eq!(name(&long), "€".repeat(341) + "..");
+        let whole = "a".repeat(1_024);
+        assert_eq!(name(&whole), whole);
+        assert_eq!(name_in_document(":a"), "\\u{3a}a");
+    }
 }

@@ -1,5 +1,6 @@
 //! The explanation: the part of an output that says why a test failed.
 
+use crate::report::colours::{place_after, place_before};
 use crate::report::limit::Limit;
 use crate::report::lines::written_count;
 use deodarsieve::TestOutputErrorSlice;
@@ -8,7 +9,7 @@ use std::borrow::Cow;
 
 /// What is found in an output.
 pub(crate) struct Found<'a> {
-    /// The output.
+    /// The output, without colours.
     pub(crate) output: &'a str,
 
     /// The slice that explains the failure.
@@ -21,7 +22,7 @@ pub(crate) struct Found<'a> {
     pub(crate) last: Option<HeadSpan>,
 }
 
-/// The part of an output that says why a test failed.
+/// The part of an output that says why a test failed. The output may have colours.
 #[derive(Clone, Copy)]
 pub(crate) struct Explanation<'a> {
     output: &'a str,
@@ -43,7 +44,7 @@ pub(crate) struct Excerpt<'a> {
 }
 
 impl<'a> Found<'a> {
-    /// Returns what is found in an output.
+    /// Returns what is found in an output without colours.
     pub(crate) fn of(output: &'a str) -> Found<'a> {
         let bytes = output.as_bytes();
         Found {
@@ -65,17 +66,17 @@ impl<'a> Found<'a> {
         matches!(self.slice, Some(TestOutputErrorSlice::PanicMessage { .. }))
     }
 
-    /// Returns the explanation in the output. It is the slice that explains the failure. If that is a panic, the
-    /// panics before it come first, since it may be what came of the first one.
-    pub(crate) fn explanation(&self) -> Option<Explanation<'a>> {
+    /// Returns the explanation in the output, of which `output` is the one with colours. It is the slice that explains the
+    /// failure. If that is a panic, the panics before it come first, since it may be what came of the first one.
+    pub(crate) fn explanation_in<'b>(&self, output: &'b str) -> Option<Explanation<'b>> {
         let part = self.slice?.combined_subslice()?;
         let head = self.first.filter(|_| self.is_panic());
         let start = head.map_or(part.start, |head| head.start.min(part.start));
         Some(Explanation {
-            output: self.output,
-            start,
-            slice: part.start,
-            end: part.start + part.slice.len(),
+            output,
+            start: place_before(output, start),
+            slice: place_before(output, part.start),
+            end: place_after(output, part.start + part.slice.len()),
         })
     }
 }

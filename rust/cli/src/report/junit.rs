@@ -12,7 +12,8 @@
 //! | `skipped` | each other `case` that was skipped |
 //! | `failure` or `error` (`message`, `type`, `why`), `output` (its `text`) | each `case` that failed |
 
-use crate::report::escape::{line, name, text, whole_text};
+use crate::report::colours::without_colours;
+use crate::report::escape::{line, name_in_document, text, whole_text};
 use crate::report::model::{
     CaseModel, FailedModel, FailedResult, PlaceModel, ProblemModel, ReportModel, SuiteModel,
     TestKind, TestModel,
@@ -146,7 +147,7 @@ fn suite_values(suite: SuiteModel, model: &ReportModel) -> Values {
 /// Returns the values of a test.
 fn test_values(test: TestModel, class: &str) -> Values {
     let values = Values::with_room(CASE_VALUES)
-        .text("name", name(test.name()))
+        .text("name", name_in_document(test.name()))
         .text("class", class)
         .time(test.time);
     match test.kind {
@@ -177,7 +178,7 @@ fn with_failure(values: Values, failed: &FailedModel) -> Values {
     };
     let reason = Values::of("message", text(&failed.short))
         .text("type", failed.result.type_of())
-        .text("why", text(&failed.why));
+        .text("why", text(&without_colours(&failed.why)));
     let output = failed
         .output
         .as_deref()
@@ -190,17 +191,18 @@ fn with_failure(values: Values, failed: &FailedModel) -> Values {
 
 /// Returns the values of a place.
 fn place_values(place: &PlaceModel) -> Values {
-    Values::of("file", line(&place.file)).text("line", &place.line)
+    Values::of("file", text(&line(&place.file))).text("line", &place.line)
 }
 
 /// Returns the test case of a problem. Its line is its name. Its text is what explains it or, if nothing does, the line
 /// again, because some readers show only the text of an error.
 fn problem_values(problem: &ProblemModel) -> Values {
-    let why = problem.shown_why().unwrap_or_else(|| problem.line.clone());
-    let error = Values::of("message", &problem.line)
+    let line = text(&problem.line);
+    let why = problem.shown_why().unwrap_or_else(|| line.clone());
+    let error = Values::of("message", line.clone())
         .text("type", problem.kind)
         .text("why", why);
-    Values::of("name", &problem.line)
+    Values::of("name", line)
         .text("class", OWN_NAME)
         .some("place", problem.place().map(place_values))
         .item("error", error)

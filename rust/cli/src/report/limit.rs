@@ -1,5 +1,7 @@
 //! How much is shown of a text of a test: the middle of a text above the limit is left out, and that of a long line.
+//! Sequences that set styles do not count as bytes, and none is divided.
 
+use crate::report::colours::{front_and_end, shown_size, without_colours};
 use crate::report::escape::front;
 use crate::report::options::{Options, OutputDisplay};
 use std::borrow::Cow;
@@ -40,9 +42,11 @@ impl LongLines {
         if !self.cuts(line) {
             return line.into();
         }
-        let front = front(line, FRONT);
-        let end = &line[line.ceil_char_boundary(line.len() - END)..];
-        let middle = line.len() - front.len() - end.len();
+        let plain = without_colours(line);
+        let front = plain.floor_char_boundary(FRONT);
+        let end = plain.ceil_char_boundary(plain.len() - END);
+        let middle = end - front;
+        let (front, end) = front_and_end(line, front, end);
         format!("{front} .. {middle}{BYTES}{end}").into()
     }
 
@@ -64,7 +68,7 @@ impl LongLines {
     /// Returns true if not all of a line is shown.
     fn cuts(self, line: &str) -> bool {
         match self {
-            LongLines::Cut => line.len() > LONG_LINE,
+            LongLines::Cut => line.len() > LONG_LINE && shown_size(line) > LONG_LINE,
             LongLines::Whole => false,
         }
     }
@@ -131,7 +135,7 @@ impl Limit {
 
     /// Returns true if a text has no more bytes than the limit.
     pub(crate) fn holds(self, text: &str) -> bool {
-        text.len() <= self.bytes
+        text.len() <= self.bytes || shown_size(text) <= self.bytes
     }
 
     /// Returns true if the lines of a text, as they are shown, have no more bytes than the limit.
@@ -166,7 +170,7 @@ impl Limit {
 
     /// Returns how many bytes are shown of a line and its line feed.
     fn size(self, line: &str) -> usize {
-        self.counted.line(line).len() + 1
+        shown_size(&self.counted.line(line)) + 1
     }
 
     /// Returns what is shown of a text: all of it or, if it is above the limit, as many lines of its front as half of

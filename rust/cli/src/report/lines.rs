@@ -1,5 +1,6 @@
 //! The lines of a text.
 
+use crate::report::colours::{is_blank, without_colours};
 use std::borrow::Cow;
 
 /// How many lines of an output are shown if nothing in it explains a failure.
@@ -27,7 +28,7 @@ pub(crate) fn without_returns(text: &str) -> Cow<'_, str> {
 
 /// Returns the lines of a text that are not blank.
 fn written(text: &str) -> impl DoubleEndedIterator<Item = &str> {
-    text.split('\n').filter(|line| !line.trim().is_empty())
+    text.split('\n').filter(|line| !is_blank(line))
 }
 
 /// Returns the number of lines that are not blank.
@@ -56,5 +57,6 @@ pub(crate) fn ten_written(text: &str) -> Option<String> {
 
 /// Returns true if the compiler reports an error in a line.
 fn is_compiler_error(line: &str) -> bool {
+    let line = without_colours(line);
     line.starts_with("error:") || line.starts_with("error[")
 }

@@ -1,70 +1,103 @@
 //! What standard output takes: no text goes there except through one of these types.
 
+use crate::report::colours::{lines_with_colours, without_colours};
 use crate::report::escape;
+use crate::report::options::Options;
+use crate::report::style::RESET;
 use crate::report_templates::{FAILED, JUNIT, MARKDOWN, PAGE};
 use crate::report_text::{Kind, Property, ReportText, Style};
 use crate::template::{Part, Value, parse_template, render};
 use serde::Serialize;
+use std::borrow::Cow;
 use std::io::{self, Write};
 
-/// The number of bytes from which on lines are appended to a text, so that no second copy of a long text is in memory.
-const MOST_AT_ONCE: usize = 16_384;
-
 /// A text for a terminal or a log, in whole lines.
-pub(crate) enum Text {
-    /// It has no control character except line feeds, tabs and colours, and no command except those of this program.
-    Safe(ReportText),
+pub(crate) struct Text {
+    content: Content,
 
-    /// The outputs of tests in it are as they were.
-    Raw(RawText),
+    /// True if it has colours: those of the report, and those in texts of tests.
+    has_colours: bool,
 }
 
-/// A text with everything that the outputs of tests hold, control characters among it. Only `--raw` makes one.
-#[derive(Default)]
-pub(crate) struct RawText(String);
+/// What a text has.
+enum Content {
+    /// It has no control character except line feeds, tabs, colours and links, and no command except those of this program.
+    Safe(ReportText),
+
+    /// The outputs of tests in it are as they were, with control characters. Only `--raw` makes one.
+    Raw(String),
+}
 
 impl Text {
-    /// Returns an empty text.
-    pub(crate) fn new(is_raw: bool) -> Text {
-        if is_raw {
-            Text::Raw(RawText::default())
+    /// Returns an empty text. Of the options it uses only `raw`, `color` and `screen`.
+    pub(crate) fn new(options: Options) -> Text {
+        let content = if options.raw {
+            Content::Raw(String::new())
+        } else if options.screen.is_for_people {
+            Content::Safe(ReportText::for_terminal())
         } else {
-            Text::Safe(ReportText::new())
+            Content::Safe(ReportText::new())
+        };
+        Text {
+            content,
+            has_colours: options.color,
         }
     }
 
     /// Returns true if nothing was appended.
     pub(crate) fn is_empty(&self) -> bool {
-        match self {
-            Text::Safe(text) => text.is_empty(),
-            Text::Raw(RawText(raw)) => raw.is_empty(),
+        match &self.content {
+            Content::Safe(text) => text.is_empty(),
+            Content::Raw(raw) => raw.is_empty(),
         }
     }
 
     /// Appends what is pushed to a safe text.
     fn push_safe(&mut self, push: impl FnOnce(&mut ReportText)) {
-        match self {
-            Text::Safe(text) => push(text),
-            Text::Raw(RawText(raw)) => {
+        match &mut self.content {
+            Content::Safe(text) => push(text),
+            Content::Raw(raw) => {
+                // In a line that has begun, nothing is the front of a command.
+                let is_begun = raw
+                    .rsplit('\n')
+                    .next()
+                    .is_some_and(|line| !line.trim().is_empty());
+                let begun = if is_begun { "x" } else { "" };
                 let mut text = ReportText::new();
+                text.push(begun);
                 push(&mut text);
-                raw.push_str(&text.finish());
+                raw.push_str(&text.finish()[begun.len()..]);
             }
         }
     }
 
-    /// Appends a text of the report, in which texts of the input are escaped.
+    /// Appends a text of the report.
     pub(crate) fn push(&mut self, text: &str) {
         self.push_safe(|safe| safe.push(text));
     }
 
-    /// Appends a word in a style.
+    /// Appends a text of the report as one line, without the line feed at its end.
+    pub(crate) fn push_line(&mut self, text: &str) {
+        self.push_safe(|safe| safe.push_line(text));
+    }
+
+    /// Appends a word, in a style if this text has colours.
     pub(crate) fn push_styled(&mut self, word: &str, style: Style) {
+        let has_colours = self.has_colours;
         self.push_safe(|safe| {
-            safe.push_style(style);
+            if has_colours {
+                safe.push_style(style);
+            }
             safe.push(word);
-            safe.push_style(Style::Reset);
+            if has_colours {
+                safe.push_style(Style::Reset);
+            }
         });
+    }
+
+    /// Appends a link with this label.
+    pub(crate) fn push_link(&mut self, target: &str, label: &str) {
+        self.push_safe(|safe| safe.push_link(target, label));
     }
 
     /// Appends an annotation of GitHub.
@@ -72,47 +105,63 @@ impl Text {
         self.push_safe(|safe| safe.push_command(kind, properties, message));
     }
 
-    /// Appends a text of a test, as it is if this text is raw.
+    /// Appends a text of a test in a line, as it is if this text is raw.
     pub(crate) fn push_input(&mut self, input: &str) {
-        match self {
-            Text::Safe(safe) => safe.push(&escape::text(input)),
-            Text::Raw(RawText(raw)) => raw.push_str(input),
+        match &mut self.content {
+            Content::Safe(safe) => safe.push(input),
+            Content::Raw(raw) => raw.push_str(input),
         }
     }
 
-    /// Appends a text of a test, as it is if this text is raw. Each line is after `margin` spaces.
+    /// Appends the lines of a text of a test, each after `margin` spaces: as they are if this text is raw, and otherwise
+    /// with their colours if it has some.
     pub(crate) fn push_indented(&mut self, input: &str, margin: usize) {
-        let mut lines = String::new();
-        for line in input.split('\n') {
-            lines.extend(std::iter::repeat_n(' ', margin));
-            match self {
-                Text::Safe(_) => escape::push_text(&mut lines, line),
-                Text::Raw(_) => lines.push_str(line),
-            }
-            lines.push('\n');
-            if lines.len() >= MOST_AT_ONCE {
-                self.push_lines(&mut lines);
-            }
+        if matches!(self.content, Content::Raw(_)) {
+            self.push_indented_names(input, margin);
+        } else if self.has_colours {
+            let lines = lines_with_colours(input);
+            self.push_lines(lines, margin, |safe, line| {
+                // The safe text ends the styles of a text itself.
+                safe.push_coloured(line.strip_suffix(RESET).unwrap_or(line));
+            });
+        } else {
+            self.push_indented_names(&without_colours(input), margin);
         }
-        self.push_lines(&mut lines);
     }
 
-    /// Appends lines that are already as they are shown, and empties them.
-    fn push_lines(&mut self, lines: &mut String) {
-        match self {
-            Text::Safe(safe) => safe.push(lines),
-            Text::Raw(RawText(raw)) => raw.push_str(lines),
+    /// Appends the same lines of a text that may have names of tests. In names a colour is an escape.
+    pub(crate) fn push_indented_names(&mut self, input: &str, margin: usize) {
+        let lines = input.split('\n').map(Cow::from);
+        self.push_lines(lines, margin, ReportText::push);
+    }
+
+    /// Appends lines, each after `margin` spaces, and pushes them in this way unless this text is raw.
+    fn push_lines<'a>(
+        &mut self,
+        lines: impl Iterator<Item = Cow<'a, str>>,
+        margin: usize,
+        push: fn(&mut ReportText, &str),
+    ) {
+        let spaces = " ".repeat(margin);
+        for line in lines {
+            match &mut self.content {
+                Content::Safe(safe) => {
+                    safe.push(&spaces);
+                    push(safe, &line);
+                    safe.push("\n");
+                }
+                Content::Raw(raw) => raw.extend([spaces.as_str(), &line, "\n"]),
+            }
         }
-        lines.clear();
     }
 
     /// Writes the text, and empties it.
     ///
     /// Fails if a write does.
     pub(crate) fn write_to(&mut self, writer: &mut impl Write) -> io::Result<()> {
-        let text = match self {
-            Text::Safe(text) => text.take(),
-            Text::Raw(RawText(raw)) => std::mem::take(raw),
+        let text = match &mut self.content {
+            Content::Safe(text) => text.take(),
+            Content::Raw(raw) => std::mem::take(raw),
         };
         writer.write_all(text.as_bytes())
     }
@@ -125,7 +174,7 @@ pub(crate) enum Template {
     Junit,
     Summary,
 
-    /// What the summary has of one failed test.
+    /// What the summary has of one failed test, or of a group of them.
     FailedTest,
 }
 
@@ -149,9 +198,13 @@ impl Template {
         }
     }
 
-    /// Returns the parts that the template has for each item of a list in a section.
-    pub(crate) fn item_parts(self, section: &str, list: &str) -> Vec<Part> {
-        parts_for(parts_for(self.parts(), section), list)
+    /// Returns the parts that the template has for each item of a list. The list is the last of these, and each is in the
+    /// parts of the one before it.
+    pub(crate) fn item_parts(self, lists: &[&str]) -> Vec<Part> {
+        let parts = self.parts();
+        lists
+            .iter()
+            .fold(parts, |parts, list| parts_for(parts, list))
     }
 }
 
@@ -219,5 +272,23 @@ impl Json {
     /// Returns the line.
     pub fn as_str(&self) -> &str {
         &self.line
+    }
+}
+
+/// The names of failed tests, one a line.
+pub struct FailedNames(Text);
+
+impl FailedNames {
+    /// Returns the names in a text.
+    pub(crate) fn of(names: Text) -> FailedNames {
+        FailedNames(names)
+    }
+
+    /// Returns the lines.
+    pub fn as_str(&self) -> &str {
+        match &self.0.content {
+            Content::Safe(text) => text.as_str(),
+            Content::Raw(raw) => raw,
+        }
     }
 }

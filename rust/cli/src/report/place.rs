@@ -6,6 +6,7 @@ use crate::report::lines::{first_line, without_return};
 use crate::report::short::other_thread;
 use crate::report::words::shown_name;
 use deodarsieve_run::{Failure, TestNote};
+use std::fmt;
 
 /// A place in the sources.
 #[derive(Clone, Copy, Debug, PartialEq, Eq)]
@@ -20,19 +21,27 @@ pub(crate) struct Place<'a> {
     pub(crate) column: Option<&'a str>,
 }
 
+impl fmt::Display for Place<'_> {
+    fn fmt(&self, f: &mut fmt::Formatter<'_>) -> fmt::Result {
+        write!(f, "{}:{}", self.file, self.line)?;
+        self.column.map_or(Ok(()), |column| write!(f, ":{column}"))
+    }
+}
+
 impl<'a> Place<'a> {
     /// Returns the place of a failure, or `None` if it is not known. It is the place in the name of a documentation
     /// test, or else the one that a panic in the output names, or else the one at the end of the message. A place outside
-    /// of the repository does not count. `found` is what is found in the output.
+    /// of the repository does not count. `message` is the message without colours, and `found` what is found in the output.
     pub(crate) fn of(
         test: &'a TestNote,
-        failure: &'a Failure,
+        failure: &Failure,
+        message: Option<&'a str>,
         found: &Found<'a>,
     ) -> Option<Place<'a>> {
         let ours = |place: &Place| is_ours(place.file);
         Place::documented(test)
             .or_else(|| of_panic(failure, found).filter(ours))
-            .or_else(|| of_message(failure.message.as_deref()?).filter(ours))
+            .or_else(|| of_message(message?).filter(ours))
     }
 
     /// Returns the place in the name of a documentation test, `FILE - ITEM (line N)` or `FILE - (line N)`, or `None` for

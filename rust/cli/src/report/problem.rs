@@ -2,6 +2,7 @@
 //! and that the run was cancelled.
 
 use crate::report::build::CompilerError;
+use crate::report::colours::without_colours;
 use crate::report::ends::{end_name, ended_how};
 use crate::report::escape::{line, name};
 use crate::report::explanation::Found;
@@ -211,13 +212,14 @@ impl<'a> Problem<'a> {
 
 /// Returns the line of an error of cargo: its first line.
 fn error_line(error: &str) -> String {
-    format!("cargo: {}", line(first_line(error).0))
+    let (first, _) = first_line(error);
+    format!("cargo: {}", line(&without_colours(first)))
 }
 
 /// Returns the lines of an error of cargo after its first one, or `None` if there are none.
 fn rest_of_error(error: &str) -> Option<String> {
     let rest = first_line(error).1.trim_matches('\n');
-    (!rest.is_empty()).then(|| rest.to_string())
+    (!rest.is_empty()).then(|| without_colours(rest).into_owned())
 }
 
 /// Returns the line that says why a run was cancelled.
@@ -226,12 +228,15 @@ fn cancelled_line(reason: CancelReason) -> String {
 }
 
 /// Returns what explains a failure of cargo: the explanation in the prints before it, or else ten lines of them, or
-/// else the line after `Caused by:`.
+/// else the line after `Caused by:`. It has no colours.
 fn cargo_why(report: &CargoReport) -> Option<String> {
-    let found = Found::of(&report.prints);
-    match found.explanation() {
+    let prints = without_colours(&report.prints);
+    match Found::of(&prints).explanation_in(&prints) {
         Some(explanation) => Some(explanation.text().to_string()),
-        None => ten_written(&report.prints).or_else(|| report.cause.clone()),
+        None => ten_written(&prints).or_else(|| {
+            let cause = report.cause.as_deref().map(without_colours);
+            cause.map(Cow::into_owned)
+        }),
     }
 }
 
@@ -264,7 +269,7 @@ fn disagreement_line(disagreement: &Disagreement) -> String {
         Disagreement::OutsideSuite { started } => {
             format!("{started} tests started outside of a suite")
         }
-        Disagreement::Cargo(report) => format!("cargo: {}", line(&report.line)),
+        Disagreement::Cargo(report) => format!("cargo: {}", line(&without_colours(&report.line))),
         Disagreement::Damaged { text } => {
             let text = line(text);
             format!("a damaged line says that a test or a suite failed: {text}")

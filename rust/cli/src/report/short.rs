@@ -1,5 +1,6 @@
 //! The short reason: one line that says why a test failed.
 
+use crate::report::colours::without_colours;
 use crate::report::ends::crash_end;
 use crate::report::explanation::Found;
 use crate::report::failure::{crash_of, crash_words, reason_of};
@@ -10,13 +11,21 @@ use deodarsieve::counted::{HeadSpan, last_head};
 use deodarsieve_run::{Crash, Failure, TestNote};
 use std::borrow::Cow;
 
-/// Returns the short reason of a failure. `found` is what is found in its output.
-pub(crate) fn short_reason(test: &TestNote, failure: &Failure, found: &Found<'_>) -> String {
+/// Returns the short reason of a failure, without colours. `message` is its message without colours, and `found` what is
+/// found in its output.
+pub(crate) fn short_reason(
+    test: &TestNote,
+    failure: &Failure,
+    message: Option<&str>,
+    found: &Found<'_>,
+) -> String {
     let documented = Place::documented(test);
     if let Some(crash) = crash_of(failure) {
         return crash_reason(crash, found, documented);
     }
-    let said = reason_of(failure, test.time).or_else(|| failure.message.as_deref().map(Cow::from));
+    let reason = reason_of(failure, test.time);
+    let reason = reason.map(|reason| without_colours(&reason).into_owned().into());
+    let said = reason.or_else(|| message.map(Cow::from));
     // Of an output that was not captured, the lines after a panic may be of another test.
     if said.is_none()
         && failure.stdout.is_some()

@@ -2,39 +2,35 @@
 
 use crate::report::advice::Advice;
 use crate::report::build::FailedTarget;
+use crate::report::colours::trim_end;
+use crate::report::comparison::Comparison;
 use crate::report::entry::Entry;
 use crate::report::escape::name;
 use crate::report::failure::ShownFailure;
 use crate::report::levels::{final_level, finished_output, has_line, skipped_output};
 use crate::report::limit::Limit;
 use crate::report::lines::without_returns;
+use crate::report::list::{LIST_MARGIN, List};
 use crate::report::model::FailedResult;
+use crate::report::numbers::Numbers;
 use crate::report::options::Options;
 use crate::report::output::Text;
 use crate::report::problem::{CONTRADICTION, Problem};
-use crate::report::slowest::Slowest;
-use crate::report::words::{outcome_text, push_time_and_title, push_title, summary};
-use crate::report_text::Style;
+use crate::report::words::{
+    numbers_in_words, outcome_text, style_of, summary, time_and_title, title_of,
+};
 use deodarsieve::{FinalStatusLevel, OutputOnTestFinished, OutputStoreFinal, StatusLevel};
 use deodarsieve_run::{Finish, RunEnd, TestNote, TestOutcome};
-use std::cmp::Reverse;
-use std::collections::BTreeMap;
-use std::iter::repeat_n;
+use std::time::Duration;
 
 /// The number of spaces before each line of why a test failed.
 const MARGIN: usize = 4;
 
-/// The same in the list.
-const LIST_MARGIN: usize = 13;
-
-/// The room for a line. Most lines are shorter.
-const LINE: usize = 128;
-
-/// The column in which the status of a test in the list ends.
-const STATUS_WIDTH: usize = 12;
+/// The line between what is written while the run is read, the list, and the summary for scripts.
+const SEPARATOR: &str = "------------\n";
 
 /// The text for people: the tests that the levels show, failed ones with why they failed, the problems, and at the end
-/// a summary and a list of tests.
+/// a list of tests and a summary.
 pub(crate) struct TextForm {
     options: Options,
 
@@ -43,38 +39,10 @@ pub(crate) struct TextForm {
 
     /// True if the errors of the compiler are on standard error. Then they are left out.
     pub(crate) errors_are_passed_on: bool,
+
+    /// How long the command ran, by the clock, if there was one.
+    pub(crate) duration: Option<Duration>,
     list: List,
-}
-
-/// The list at the end: the tests that are stored for it, in the order of their levels, and the slowest. Contradictions
-/// and stopped tests are among the failed tests.
-struct List {
-    /// The tests by their levels. Each flaky test has a part of its own, by the number of tests that ended before it, and by
-    /// how many parts were added before it.
-    parts: BTreeMap<(Reverse<FinalStatusLevel>, usize, usize), Text>,
-    slowest: Slowest<Text>,
-}
-
-impl List {
-    /// Returns the part of the list for a level, to which the lines of a test are appended. `ended` is the number of tests
-    /// that ended before the test.
-    fn part(&mut self, level: FinalStatusLevel, ended: usize, options: Options) -> &mut Text {
-        let key = match level {
-            FinalStatusLevel::Flaky => (Reverse(level), ended, self.parts.len()),
-            _ => (Reverse(level), 0, 0),
-        };
-        let part = self.parts.entry(key);
-        part.or_insert_with(|| Text::new(options.raw))
-    }
-
-    /// Keeps the line of a test that ran, if it is one of the slowest so far.
-    fn keep_time(&mut self, test: &TestNote, options: Options) {
-        self.slowest.add(test.time, || {
-            let mut line = Text::new(options.raw);
-            push_line("SLOWEST", test, STATUS_WIDTH, "\n", options, &mut line);
-            line
-        });
-    }
 }
 
 impl TextForm {
@@ -84,10 +52,8 @@ impl TextForm {
             options,
             advice: Advice::Input,
             errors_are_passed_on: false,
-            list: List {
-                parts: BTreeMap::new(),
-                slowest: Slowest::new(options.slowest),
-            },
+            duration: None,
+            list: List::new(options),
         }
     }
 
@@ -96,7 +62,10 @@ impl TextForm {
         match entry {
             Entry::Failed(failure) => self.on_failed(failure, text),
             Entry::Passed(test) => self.on_passed(test, text),
-            Entry::Flaky(test) => push_passed(test, self.options, text),
+            Entry::Flaky(test) => {
+                let shows = finished_output(self.options, Finish::Passed, test);
+                push_passed(test, shows, self.options, text);
+            }
             Entry::Skipped(test) => self.on_skipped(test, text),
             Entry::Stopped(test) => self.on_stopped(test),
             Entry::Problem(problem) => self.on_problem(problem, text),
@@ -105,28 +74,63 @@ impl TextForm {
         }
     }
 
-    /// Returns the end of the text: the summary, the list and the outcome. `lacks_events` is true if a command wrote no
-    /// line of a harness.
-    pub(crate) fn on_end(mut self, end: &RunEnd, lacks_events: bool) -> Vec<Text> {
-        let mut head = Text::new(self.options.raw);
+    /// Returns the end of the text: the comparison with an earlier run, the list, the numbers that are not 0 and, unless it is for a terminal, the summary for
+    /// scripts. `lacks_events` is true if a command wrote no line of a harness.
+    pub(crate) fn on_end(
+        mut self,
+        end: &RunEnd,
+        lacks_events: bool,
+        comparison: Option<&Comparison>,
+    ) -> Vec<Text> {
+        let mut head = Text::new(self.options);
+        if let Some(comparison) = comparison {
+            head.push(&format!("{}\n", comparison.line()));
+        }
         if lacks_events && self.advice.is_of_command() {
             self.push_advice(&mut head);
         }
-        head.push(&format!("------------\n     Summary {}\n", summary(end)));
-        let outcome = self.outcome(end);
-        let list = self.list;
-        let mut texts = vec![head];
-        texts.extend(list.parts.into_values());
-        texts.extend(list.slowest.into_tests().map(|(_, line)| line));
-        texts.push(outcome);
-        texts
+        let mut foot = self.numbers(end);
+        if !self.options.screen.is_terminal {
+            foot.push(&format!("{SEPARATOR}     Summary {}\n", summary(end)));
+            self.push_outcome(end, &mut foot);
+        }
+        let list = self.list.into_texts(comparison);
+        if !list.is_empty() {
+            head.push(SEPARATOR);
+        }
+        [head].into_iter().chain(list).chain([foot]).collect()
     }
 
-    /// Returns the line of the outcome. A run whose tests could not be built has nothing else at its end.
-    pub(crate) fn outcome(&self, end: &RunEnd) -> Text {
-        let mut outcome = Text::new(self.options.raw);
-        outcome.push(&format!("outcome {}\n", outcome_text(end.outcome)));
-        outcome
+    /// Returns the end of the text of a run whose tests could not be built. What became of it was said before.
+    pub(crate) fn on_failed_build(&self, end: &RunEnd) -> Vec<Text> {
+        let mut text = Text::new(self.options);
+        if !self.options.screen.is_terminal {
+            self.push_outcome(end, &mut text);
+        }
+        vec![text]
+    }
+
+    /// Returns the line of the numbers that are not 0, and of the time by the clock.
+    fn numbers(&self, end: &RunEnd) -> Text {
+        let mut text = Text::new(self.options);
+        let words = numbers_in_words(Numbers::of_run(end), self.list.error_count);
+        if words.is_empty() {
+            text.push("no test ran");
+        }
+        for (place, (words, style)) in words.iter().enumerate() {
+            text.push(if place > 0 { ", " } else { "" });
+            text.push_styled(words, *style);
+        }
+        if let Some(duration) = self.duration {
+            text.push(&format!(" in {:.1} s", duration.as_secs_f64()));
+        }
+        text.push("\n");
+        text
+    }
+
+    /// Appends the line of the outcome.
+    fn push_outcome(&self, end: &RunEnd, text: &mut Text) {
+        text.push(&format!("outcome {}\n", outcome_text(end.outcome)));
     }
 
     /// Appends the line of a target that does not compile and, if they are not on standard error, its errors.
@@ -157,42 +161,40 @@ impl TextForm {
                 0 | 1 => "\n".to_string(),
                 attempts => format!(" ({attempts} attempts)\n"),
             };
-            push_line(status, test, 0, &attempts, options, text);
+            push_line(status, test, &attempts, text);
         }
         if shows.show_immediate {
             push_why(failure, MARGIN, text);
         }
-        self.list.keep_time(test, options);
-        let OutputStoreFinal::Yes { display_output } = shows.store_final else {
-            return;
-        };
-        let part = self.list.part(final_level(finish, test), 0, options);
-        push_line(status, test, STATUS_WIDTH, ": ", options, part);
-        part.push_input(&failure.short());
-        part.push("\n");
-        if display_output {
-            push_why(failure, LIST_MARGIN, part);
+        self.list.keep_time(test);
+        if let OutputStoreFinal::Yes { display_output } = shows.store_final {
+            let why = display_output.then(|| {
+                let mut why = Text::new(options);
+                push_why(failure, LIST_MARGIN, &mut why);
+                why
+            });
+            self.list.add_failure(failure, why);
         }
     }
 
     /// Takes a test that passed. What is shown of a flaky test was written when it passed.
     fn on_passed(&mut self, test: &TestNote, text: &mut Text) {
         let options = self.options;
-        if test.attempts <= 1 {
-            push_passed(test, options, text);
-        }
-        self.list.keep_time(test, options);
         let shows = finished_output(options, Finish::Passed, test);
+        if test.attempts <= 1 {
+            push_passed(test, shows, options, text);
+        }
+        self.list.keep_time(test);
         let OutputStoreFinal::Yes { display_output } = shows.store_final else {
             return;
         };
-        let (level, ended) = (final_level(Finish::Passed, test), test.ended.unwrap_or(0));
-        let part = self.list.part(level, ended, options);
         let status = match test.attempts {
             0 | 1 if test.slow => "SLOW".into(),
             _ => passed_status(test),
         };
-        push_line(&status, test, STATUS_WIDTH, "\n", options, part);
+        let part = self
+            .list
+            .add(&status, final_level(Finish::Passed, test), test);
         if display_output {
             push_output(test, LIST_MARGIN, options, part);
         }
@@ -203,33 +205,32 @@ impl TextForm {
         let options = self.options;
         let shows = skipped_output(options, test);
         if has_line(shows) {
-            push_line("SKIP", test, 0, "\n", options, text);
+            push_line("SKIP", test, "\n", text);
         }
         if let OutputStoreFinal::Yes { .. } = shows.store_final {
-            let part = self.list.part(FinalStatusLevel::Skip, 0, options);
-            push_line("SKIP", test, STATUS_WIDTH, "\n", options, part);
+            self.list.add("SKIP", FinalStatusLevel::Skip, test);
         }
     }
 
     /// Takes a test that was stopped. If the run was cancelled, the list has it, if it has failed tests, and among them.
     /// Otherwise the problem of its suite has it.
     fn on_stopped(&mut self, test: &TestNote) {
-        let options = self.options;
-        if test.cancel.is_some() && options.final_status_level >= FinalStatusLevel::Fail {
-            let part = self.list.part(FinalStatusLevel::Fail, 0, options);
-            push_line("STOPPED", test, STATUS_WIDTH, "\n", options, part);
+        if test.cancel.is_some() && self.lists_failures() {
+            self.list.add_stopped(test);
         }
+    }
+
+    /// Returns true if the list has failed tests.
+    fn lists_failures(&self) -> bool {
+        self.options.final_status_level >= FinalStatusLevel::Fail
     }
 
     /// Appends that a test of a program, if one is known, has run for a minute. Tests that are not to be shown when they end
     /// are not named, either.
     pub(crate) fn on_hung(&self, program: Option<&str>, test: &str, text: &mut Text) {
         if self.options.status_level > StatusLevel::None {
-            let mut line = begun_line("SLOW", 0, self.options, text);
-            line.push_str("[> 60s] ");
-            push_title(&mut line, program, test);
-            line.push('\n');
-            text.push(&line);
+            text.push_styled("SLOW", style_of("SLOW"));
+            text.push(&format!(" [> 60s] {}\n", title_of(program, test)));
         }
     }
 
@@ -244,67 +245,38 @@ impl TextForm {
     fn on_problem(&mut self, problem: &Problem<'_>, text: &mut Text) {
         text.push(&format!("{}\n", problem.line));
         if let Some(why) = problem.why.as_ref().filter(|_| !problem.why_is_listed) {
-            text.push_indented(&why.shown(), MARGIN);
+            text.push_indented_names(&why.shown(), MARGIN);
         }
         if problem.lacks_events {
             self.push_advice(text);
         }
-        let options = self.options;
-        if problem.kind == CONTRADICTION && options.final_status_level >= FinalStatusLevel::Fail {
-            let part = self.list.part(FinalStatusLevel::Fail, 0, options);
-            let mut line = begun_line("ERROR", STATUS_WIDTH, options, part);
-            line.push_str(&problem.line);
-            line.push('\n');
-            part.push(&line);
+        if problem.kind == CONTRADICTION {
+            self.list.error_count += 1;
+            if self.lists_failures() {
+                self.list.add_error(&problem.line);
+            }
         }
     }
 }
 
 /// Appends the line of a test that passed and its output, if the levels show them.
-fn push_passed(test: &TestNote, options: Options, text: &mut Text) {
-    let shows = finished_output(options, Finish::Passed, test);
+fn push_passed(test: &TestNote, shows: OutputOnTestFinished, options: Options, text: &mut Text) {
     let shows = OutputOnTestFinished {
         show_immediate: shows.show_immediate && passed_output(test).is_some(),
         ..shows
     };
     if has_line(shows) {
-        push_line(&passed_status(test), test, 0, "\n", options, text);
+        push_line(&passed_status(test), test, "\n", text);
     }
     if shows.show_immediate {
         push_output(test, MARGIN, options, text);
     }
 }
 
-/// Appends the status, the time and the name of a test, and after these a text of the report. The status ends in the
-/// column `width`.
-fn push_line(
-    status: &str,
-    test: &TestNote,
-    width: usize,
-    end: &str,
-    options: Options,
-    text: &mut Text,
-) {
-    let mut line = begun_line(status, width, options, text);
-    push_time_and_title(&mut line, test);
-    line.push_str(end);
-    text.push(&line);
-}
-
-/// Returns the beginning of a line: the status, which ends in the column `width`, and a space. Appends the status first
-/// if it has a colour.
-fn begun_line(status: &str, width: usize, options: Options, text: &mut Text) -> String {
-    let mut line = String::with_capacity(LINE);
-    line.extend(repeat_n(' ', width.saturating_sub(status.len())));
-    if options.color {
-        text.push(&line);
-        text.push_styled(status, style_of(status));
-        line.clear();
-    } else {
-        line.push_str(status);
-    }
-    line.push(' ');
-    line
+/// Appends the status, the time and the name of a test, and after these a text of the report.
+fn push_line(status: &str, test: &TestNote, end: &str, text: &mut Text) {
+    text.push_styled(status, style_of(status));
+    text.push(&format!(" {}{end}", time_and_title(test)));
 }
 
 /// Appends why a test failed. If several tests of a suite crashed, only the first has the explanation.
@@ -330,20 +302,11 @@ fn passed_status(test: &TestNote) -> String {
     }
 }
 
-/// Returns the style of the word for a result or a contradiction.
-fn style_of(status: &str) -> Style {
-    match status {
-        "FAIL" | "TIMEOUT" | "CRASH" | "ERROR" => Style::BoldRed,
-        "PASS" => Style::BoldGreen,
-        _ => Style::BoldYellow,
-    }
-}
-
 /// Returns the output of a test that passed, without the white space at its end, or `None` if nothing is left.
 fn passed_output(test: &TestNote) -> Option<&str> {
     match &test.outcome {
         TestOutcome::Passed { output } => {
-            let output = output.as_deref()?.trim_end();
+            let output = trim_end(output.as_deref()?);
             (!output.is_empty()).then_some(output)
         }
         TestOutcome::Skipped { .. } | TestOutcome::Stopped | TestOutcome::Failed(_) => None,

@@ -1,7 +1,8 @@
 //! The panics of threads in what their program printed.
 
+use crate::report::failure::failed_test;
 use deodarsieve::counted::{HeadSpan, first_head};
-use deodarsieve_run::{FailureKind, Note, TestNote, TestOutcome};
+use deodarsieve_run::{FailureKind, Note, TestNote};
 use std::collections::{HashMap, VecDeque};
 
 /// How many bytes of the prints between the events of a run are looked through for panics: the last ones.
@@ -57,14 +58,27 @@ impl ThreadPanics {
         }
     }
 
-    /// Notes that a test starts: a panic before that is not its own.
+    /// Notes that a test starts: a panic before that is not its own. Nearly always there is none.
     pub(crate) fn on_test_started(&mut self, name: &str) {
-        self.panics.remove(name);
+        if !self.panics.is_empty() {
+            self.panics.remove(name);
+        }
+    }
+
+    /// Drops all panics.
+    pub(crate) fn clear(&mut self) {
+        if self.size > 0 {
+            *self = ThreadPanics::default();
+        }
     }
 
     /// Takes the panics of the failed tests among notes whose outputs were not captured. Returns a text for each note, which
-    /// is empty for another one. A panic is taken once, so no text is searched for each of many tests of one name.
+    /// is empty for another one, or none if there is no such test. A panic is taken once, so no text is searched for each of
+    /// many tests of one name.
     pub(crate) fn take_of(&mut self, notes: &[Note]) -> Vec<String> {
+        if !notes.iter().any(|note| uncaptured(note).is_some()) {
+            return Vec::new();
+        }
         let texts = notes.iter().map(|note| match uncaptured(note) {
             Some((test, _)) => self.take(&test.name),
             None => String::new(),
@@ -105,15 +119,8 @@ impl ThreadPanics {
 
 /// Returns the test of a note, and how it failed, if its output was not captured.
 pub(crate) fn uncaptured(note: &Note) -> Option<(&TestNote, &FailureKind)> {
-    match note {
-        Note::Test(test) => match &test.outcome {
-            TestOutcome::Failed(failure) => {
-                failure.stdout.is_none().then_some((test, &failure.kind))
-            }
-            TestOutcome::Passed { .. } | TestOutcome::Skipped { .. } | TestOutcome::Stopped => None,
-        },
-        Note::Flaky(_) | Note::Disagreement(_) | Note::NotRun(_) | Note::Suite(_) => None,
-    }
+    let (test, failure) = failed_test(note)?;
+    failure.stdout.is_none().then_some((test, &failure.kind))
 }
 
 /// Returns the name of the thread in a line that begins with the head of a panic.

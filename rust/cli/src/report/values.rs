@@ -1,4 +1,4 @@
-//! Values for templates, and the page and the summary that templates make of a model.
+//! Values for templates.
 //!
 //! An item of a list has its own values, and a list without items is absent. Names are in lower case:
 //!
@@ -9,37 +9,28 @@
 //! | `slow` | the tests that passed and were slow, if there are some: a `count` |
 //! | `time` | the run, if its time is known |
 //! | `bar` | the run, unless no test is known: a `part` with a `class` and a `number` for each number that is not 0 |
+//! | `comparison` | the run, if there is an earlier one: its `line`, or the numbers `new`, `still` and `fixed`. If tests are fixed, `fixed` of a page and `tests` of a summary have their `count` and a `test` for each |
 //! | `problems` | a `problem` with a `line` and, if anything explains it, `why` (its `text`) |
-//! | `failures` | a `failed` test with `status`, `suite` (its `name`), `name`, `note`, `short`, `why` and, if `why` does not show all of its output, `output` (its `text`, and the number of its `lines`) |
+//! | `failures` | a `failed` for each group, with a heading and what its first test has to say. The heading is `one`, the row of the only test, or a `group` with `status`, `new` and `count`. Both have `short` |
+//! | `tests` | a group with several tests: a `test` for each, with its row and, in a page, its `output` if that is not the one of the first |
+//! | `why` or, in a page, `piece` | a `failed`: why the first test failed. A page has pieces of texts of tests, each of which is `plain` or `coloured` (its `class` and its `text`) |
+//! | `output` | a `failed`, if why does not show all of the output: the output, its `lines` (a number) and, in a page, `what` it is |
 //! | `suites` | a `suite` with `name`, `words`, `bar` (as above) and `time` |
 //! | `slowest` | a `slow` test with `name`, `share` (of the longest time, in hundredths) and `seconds` |
 //! | `skips` | a `skip` with `name` and `reason`: a skipped test that has a reason |
 //! | `flaky_tests` | a `test` with `name`, `attempts` and `time`: one that passed after several attempts |
-//! | `more` | the failed tests that a summary leaves out, if there are some: a `count`. The template has nothing for other problems, so their number is the `line` of a last one |
+//! | `more` | what a summary leaves out, if it does: a `count` of failed tests, or of names in a list. The template has nothing for other problems, so their number is the `line` of a last one |
 //! | `ran`, `no_tests` | the run in a summary: its `outcome`, or that no test ran |
 //!
-//! A `note` has `attempts` with a `count`, if there were several, and a `time`. A `time` has `seconds`. If a `line`, a
-//! `short`, or the `name` of a failed test or of its suite has an `@`, there is an item without values beside it:
-//! `line_code`, `short_code` or `name_code`.
+//! The row of a test is `status`, `new` (its `words`), `suite` (its `name`), `name` and `note`. A `note` has `attempts` with
+//! a `count`, if there were several, and a `time`. A `time` has `seconds`. If a `line`, a `short`, or the `name` of a test or
+//! of its suite has an `@`, there is an item without values beside it: `line_code`, `short_code` or `name_code`.
 
-use crate::report::escape::{name, shortened, text};
-use crate::report::model::{
-    CaseModel, FailedModel, FlakyModel, ProblemModel, ReportModel, Seconds, SuiteModel, TestKind,
-};
-use crate::report::numbers::Numbers;
+use crate::report::escape::{name_in_document, text};
+use crate::report::model::{ReportModel, Seconds};
 use crate::report::output::{Document, Template};
-use crate::report::whole_output::{MOST_BYTES_OF_SUMMARY, MOST_BYTES_OF_TEXT, WholeOutput};
-use crate::report::words::{seconds_text, suite_name};
+use crate::report::words::seconds_text;
 use crate::template::{Part, Value, push_item, push_section, push_text, render};
-
-/// The most bytes that the problems of a summary have, so that there is room for failed tests.
-const MOST_BYTES_OF_PROBLEMS: usize = MOST_BYTES_OF_SUMMARY / 2;
-
-/// The most bytes of the short reason of a failed test in a summary.
-const MOST_BYTES_OF_SHORT: usize = 4_096;
-
-/// How many values most failed tests have.
-const FAILED_VALUES: usize = 6;
 
 /// Values for a template.
 #[derive(Default)]
@@ -82,7 +73,7 @@ impl Values {
     }
 
     /// Adds an item with a count, unless that is 0.
-    fn count(self, list: &'static str, count: usize) -> Values {
+    pub(crate) fn count(self, list: &'static str, count: usize) -> Values {
         let item = (count > 0).then(|| Values::of("count", count.to_string()));
         self.some(list, item)
     }
@@ -115,96 +106,37 @@ impl Values {
         )
     }
 
+    /// Adds the name of a suite, if there is one, and that of a test. Both are escaped.
+    pub(crate) fn names(self, suite: Option<&str>, test: &str) -> Values {
+        let named = |values: Values, shown: String| {
+            values
+                .mark("name_code", is_code(&shown))
+                .text("name", shown)
+        };
+        let suite = suite.map(|suite| named(Values::with_room(1), name_in_document(suite)));
+        named(self.some("suite", suite), name_in_document(test))
+    }
+
+    /// Returns true if there are no values.
+    pub(crate) fn is_empty(&self) -> bool {
+        self.0.is_empty()
+    }
+
+    /// Returns how many bytes these parts of a template render of the values.
+    pub(crate) fn rendered_size(&self, parts: &[Part]) -> usize {
+        let mut text = String::new();
+        render(&mut text, parts, &self.0);
+        text.len()
+    }
+
     /// Returns what a template renders of the values.
     pub(crate) fn rendered(&self, template: Template) -> Document {
         Document::rendered(template, &self.0)
     }
 }
 
-/// Returns the page of a report. If it is the last document, the texts of the model are dropped while values are made.
-pub(crate) fn page(model: &mut ReportModel, is_last: bool) -> Document {
-    let failures: Vec<_> = failures(model)
-        .into_iter()
-        .map(|mut failure| {
-            let reason = failure.reason_on_page();
-            failure.values(reason, is_last)
-        })
-        .collect();
-    let longest = model.slowest.first().map_or(0, |slow| slow.0).max(1);
-    let problems = model.problems.iter();
-    let problems = problems.map(|problem| problem_values(&problem.line, problem.shown_why()));
-    let suites = model.suites.iter().map(suite_row);
-    let skips = model.skips.iter();
-    let skips = skips.map(|(name, reason)| Values::of("name", name).text("reason", reason));
-    let slowest = model.slowest.iter().map(|(time, title)| {
-        let share = u128::from(*time) * 100 / u128::from(longest);
-        Values::of("name", title)
-            .number("share", share)
-            .text("seconds", seconds_text(*time))
-    });
-    run_values(model)
-        .text("outcome", model.outcome)
-        .section("bar", "part", bar_parts(model.numbers))
-        .section("problems", "problem", problems)
-        .section("failures", "failed", failures.into_iter())
-        .section("suites", "suite", suites)
-        .section("slowest", "slow", slowest)
-        .section("skips", "skip", skips)
-        .section("flaky_tests", "test", model.flaky.iter().map(flaky_values))
-        .rendered(Template::Page)
-}
-
-/// Returns the summary of a report in Markdown. It has only the first of many problems and of many failed tests. If it is
-/// the last document, the texts of the model are dropped while values are made.
-pub(crate) fn summary(model: &mut ReportModel, is_last: bool) -> Document {
-    let mut room = Room(MOST_BYTES_OF_PROBLEMS);
-    let parts = Template::Summary.item_parts("problems", "problem");
-    let mut problems = room.fitting(&parts, model.problems.iter().map(problem_in_summary));
-    let more = model.problems.len() - problems.len();
-    if more > 0 {
-        let line = format!("({more} more problems: a summary on GitHub holds 1 MiB)");
-        problems.push(problem_values(&line, None));
-    }
-    room.0 += MOST_BYTES_OF_SUMMARY - MOST_BYTES_OF_PROBLEMS;
-    let failures = failures(model);
-    let count = failures.len();
-    let shown = failures.into_iter().map(|mut failure| {
-        let reason = failure.reason_in_summary();
-        failure.values(reason, is_last)
-    });
-    let shown = room.fitting(&Template::FailedTest.parts(), shown);
-    let more = count - shown.len();
-    // The template itself has the word for a run in which no test ran: its hyphens would be references in a value.
-    let outcome = (!model.is_empty).then(|| Values::of("outcome", model.outcome));
-    run_values(model)
-        .section("problems", "problem", problems.into_iter())
-        .section("failures", "failed", shown.into_iter())
-        .count("more", more)
-        .some("ran", outcome)
-        .mark("no_tests", model.is_empty)
-        .rendered(Template::Summary)
-}
-
-/// How many bytes a summary still has room for.
-struct Room(usize);
-
-impl Room {
-    /// Returns the values of the first items, as long as what these parts of a template render of them fits, and takes
-    /// that room.
-    fn fitting(&mut self, parts: &[Part], items: impl Iterator<Item = Values>) -> Vec<Values> {
-        items
-            .map_while(|values| {
-                let mut text = String::new();
-                render(&mut text, parts, &values.0);
-                self.0 = self.0.checked_sub(text.len())?;
-                Some(values)
-            })
-            .collect()
-    }
-}
-
 /// Returns the numbers and the time of a run.
-fn run_values(model: &ReportModel) -> Values {
+pub(crate) fn run_values(model: &ReportModel) -> Values {
     let numbers = model.numbers;
     Values::default()
         .number("finished", numbers.finished)
@@ -219,142 +151,53 @@ fn run_values(model: &ReportModel) -> Values {
         .time(model.time)
 }
 
-/// Returns the parts of a bar.
-fn bar_parts(numbers: Numbers) -> impl Iterator<Item = Values> {
-    numbers
-        .parts()
-        .map(|(number, _, class)| Values::of("class", class).number("number", number))
-}
-
-/// Returns the values of a problem in a summary, where its line and what explains it are cut.
-fn problem_in_summary(problem: &ProblemModel) -> Values {
-    let line = shortened(&problem.line, MOST_BYTES_OF_TEXT);
-    problem_values(&line, problem.why_in_summary())
-}
-
 /// Returns the values of a problem with this line and, if anything explains it, with this explanation.
-fn problem_values(line: &str, why: Option<String>) -> Values {
+pub(crate) fn problem_values(line: &str, why: Option<String>) -> Values {
+    let line = text(line);
+    let is_code = is_code(&line);
     Values::of("line", line)
         .some("why", why.map(|why| Values::of("text", why)))
-        .mark("line_code", line.contains('@'))
+        .mark("line_code", is_code)
 }
 
-/// Returns the row of a suite.
-fn suite_row(suite: &SuiteModel) -> Values {
-    let name = suite.name.as_deref().map(String::as_str);
-    Values::of("name", suite_name(name))
-        .text("words", suite.numbers.words())
-        .section("bar", "part", bar_parts(suite.numbers))
-        .time(suite.time)
+/// Returns true if GitHub would take a part of a text for the name of a user or of an emoji, such as `@name` or `:key:`,
+/// unless the text is code.
+pub(crate) fn is_code(text: &str) -> bool {
+    let is_of_name = |c: char| c.is_ascii_alphanumeric() || matches!(c, '_' | '+' | '-');
+    let has_letter = |part: &str| part.contains(|c: char| c.is_ascii_alphabetic());
+    let is_number = |part: &str| matches!(part, "100" | "1234" | "+1" | "-1");
+    let is_name = |part: &str| is_number(part) || part.chars().all(is_of_name) && has_letter(part);
+    let between = text
+        .split_once(':')
+        .and_then(|(_, rest)| rest.rsplit_once(':'));
+    text.contains('@') || between.is_some_and(|(parts, _)| parts.split(':').any(is_name))
 }
 
-/// Returns the values of a test that passed after several attempts.
-fn flaky_values(test: &FlakyModel) -> Values {
-    Values::of("name", &test.title)
-        .number("attempts", test.attempts)
-        .time(test.time)
-}
+#[cfg(test)]
+mod tests {
+    use super::is_code;
 
-/// A failed test of a report.
-struct Failure<'a> {
-    suite: Option<&'a str>,
-    test: &'a str,
-    attempts: usize,
-    time: Option<Seconds>,
-    failed: &'a mut FailedModel,
-}
-
-/// Returns the failed tests of a report, in the order in which they became known.
-fn failures(model: &mut ReportModel) -> Vec<Failure<'_>> {
-    let mut failures = Vec::new();
-    for SuiteModel { name, cases, .. } in &mut model.suites {
-        let suite = name.as_deref().map(String::as_str);
-        failures.extend(cases.iter_mut().filter_map(|case| Failure::of(suite, case)));
-    }
-    failures.sort_by_key(|failure| failure.failed.order);
-    failures
-}
-
-/// What a document shows of why a test failed. The texts are escaped.
-struct Reason {
-    short: String,
-    why: String,
-
-    /// The whole output, if it is shown.
-    output: Option<WholeOutput>,
-}
-
-impl<'a> Failure<'a> {
-    /// Returns the failed test of a case of a suite.
-    fn of(suite: Option<&'a str>, case: &'a mut CaseModel) -> Option<Failure<'a>> {
-        match case {
-            CaseModel::Test(test) => {
-                let (attempts, time) = (test.attempts, test.time);
-                let (name, kind) = test.name_and_kind();
-                match kind {
-                    TestKind::Failed(failed) => Some(Failure {
-                        suite,
-                        test: name,
-                        attempts,
-                        time,
-                        failed,
-                    }),
-                    TestKind::Passed | TestKind::Skipped(_) | TestKind::Stopped(_) => None,
-                }
-            }
-            CaseModel::Problem(_) => None,
+    #[test]
+    fn names_of_users_and_of_emojis_are_code() {
+        for text in [
+            "a@b",
+            ":key:",
+            "tests::key::works",
+            "a:+1:b",
+            "::x::y",
+            "src/lib.rs:100:5: no",
+        ] {
+            assert!(is_code(text), "{text}");
         }
-    }
-
-    /// Returns what a page shows of why the test failed.
-    fn reason_on_page(&mut self) -> Reason {
-        Reason {
-            short: text(&self.failed.short),
-            why: text(&self.failed.why),
-            output: self.failed.page_output.take(),
+        for text in [
+            "",
+            "tests::adds",
+            "src/lib.rs:9:32: no",
+            "a: b: c",
+            ":a b:",
+            "::",
+        ] {
+            assert!(!is_code(text), "{text}");
         }
-    }
-
-    /// Returns what a summary shows of why the test failed.
-    fn reason_in_summary(&mut self) -> Reason {
-        let failed = &mut *self.failed;
-        let why = failed.summary_why.take();
-        Reason {
-            short: text(&shortened(&failed.short, MOST_BYTES_OF_SHORT)),
-            why: text(why.as_deref().unwrap_or(&failed.why)),
-            output: failed.summary_output.take(),
-        }
-    }
-
-    /// Returns the values of the test.
-    fn values(self, reason: Reason, is_last: bool) -> Values {
-        let failed = self.failed;
-        let Reason { short, why, output } = reason;
-        let test_name = name(self.test);
-        if is_last {
-            failed.short = String::new();
-            failed.why = String::new();
-        }
-        let suite = self.suite.map(|suite| {
-            let suite = name(suite);
-            let has_at = suite.contains('@');
-            Values::of("name", suite).mark("name_code", has_at)
-        });
-        let attempts = (self.attempts > 1).then(|| Values::of("count", self.attempts.to_string()));
-        let note = Values::with_room(1)
-            .some("attempts", attempts)
-            .time(self.time);
-        let output = output
-            .map(|output| Values::of("lines", output.lines.to_string()).text("text", output.text));
-        Values::with_room(FAILED_VALUES)
-            .text("status", failed.result.status())
-            .some("suite", suite)
-            .some("note", (!note.0.is_empty()).then_some(note))
-            .mark("name_code", test_name.contains('@'))
-            .mark("short_code", short.contains('@'))
-            .text("name", test_name)
-            .text("short", short)
-            .text("why", why)
-            .some("output", output)
     }
 }

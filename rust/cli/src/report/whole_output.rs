@@ -1,7 +1,12 @@
 //! Whole outputs of failed tests, which a document has if why a test failed leaves out a part of its output.
 
+use crate::report::colours::without_colours;
 use crate::report::escape::text;
 use crate::report::lines::{first_line, without_returns};
+use crate::report::style::ESCAPE;
+
+/// About how many bytes the tags have that a colour takes in a page.
+const TAGS: usize = 24;
 
 /// How much room a document has for outputs of failed tests.
 #[derive(Clone, Copy)]
@@ -32,7 +37,7 @@ pub(crate) const SUMMARY_ROOM: OutputRoom = OutputRoom {
     left: MOST_BYTES_OF_SUMMARY,
 };
 
-/// The whole output of a failed test. Its text is escaped.
+/// The whole output of a failed test. Its text has the colours of the test, and is not escaped.
 pub(crate) struct WholeOutput {
     /// The number of its lines.
     pub(crate) lines: usize,
@@ -47,25 +52,32 @@ impl OutputRoom {
         if self.left == 0 {
             return None;
         }
-        let output = without_returns(output.trim_end());
-        if output.is_empty() {
+        let plain = without_colours(output);
+        let plain = plain.trim_end();
+        if plain.is_empty() {
             return None;
         }
+        let lines = plain.split('\n').count();
+        let output = without_returns(first_lines(output.trim_end(), lines));
         let shown = shown_end(&output, self.each);
-        self.left = self.left.saturating_sub(written_size(&shown));
-        Some(WholeOutput {
-            lines: output.split('\n').count(),
-            text: shown,
-        })
+        let tags = shown.matches(ESCAPE).count() * TAGS;
+        self.left = self.left.saturating_sub(written_size(&text(&shown)) + tags);
+        Some(WholeOutput { lines, text: shown })
     }
+}
+
+/// Returns this number of lines of a text, which has as many. Lines after them have colours and nothing else.
+fn first_lines(text: &str, count: usize) -> &str {
+    let end = text.match_indices('\n').nth(count - 1);
+    &text[..end.map_or(text.len(), |(end, _)| end)]
 }
 
 /// Returns the end of a text as it is shown, after a line with the number of bytes before that.
 fn shown_end(whole: &str, most: usize) -> String {
     let end = kept_end(whole, most);
     match whole.len() - end.len() {
-        0 => text(end),
-        before => format!("({before} bytes before this)\n{}", text(end)),
+        0 => end.to_string(),
+        before => format!("({before} bytes before this)\n{end}"),
     }
 }
 
@@ -83,7 +95,7 @@ fn kept_end(text: &str, most: usize) -> &str {
     }
 }
 
-/// Returns how many bytes a text has between tags.
+/// Returns how many bytes an escaped text has between tags.
 fn written_size(text: &str) -> usize {
     let size = |byte| match byte {
         b'&' | b'\r' => 5,

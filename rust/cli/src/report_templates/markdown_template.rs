@@ -8,7 +8,16 @@ pub const MARKDOWN: &str = r#"## Test report: {{#ran}}{{*outcome}}{{/ran}}{{#no_
 
 {{*finished}} tests run: {{*passed}} passed ({{*flaky}} flaky{{#slow}}, {{*count}} slow{{/slow}}), {{*failed}} failed ({{*timed_out}} timed out, {{*crashed}} crashed), {{*skipped}} skipped, {{*not_run}} not run{{#time}}, in {{*seconds}}s{{/time}}
 
-{{#problems}}{{#problem}}- {{#line_code}}<code>{{/line_code}}{{*line}}{{#line_code}}</code>{{/line_code}}{{#why}}
+{{#comparison}}new failures {{*new}}, still failing {{*still}}, fixed {{*fixed}}
+
+{{#tests}}<details><summary>fixed: {{*count}}</summary>
+{{#test}}
+- {{#suite}}{{#name_code}}<code>{{/name_code}}{{*name}}{{#name_code}}</code>{{/name_code}} {{/suite}}{{#name_code}}<code>{{/name_code}}{{*name}}{{#name_code}}</code>{{/name_code}}{{/test}}{{#more}}
+- ({{*count}} more tests){{/more}}
+
+</details>
+
+{{/tests}}{{/comparison}}{{#problems}}{{#problem}}- {{#line_code}}<code>{{/line_code}}{{*line}}{{#line_code}}</code>{{/line_code}}{{#why}}
 
 <pre>
 {{text}}</pre>
@@ -16,9 +25,12 @@ pub const MARKDOWN: &str = r#"## Test report: {{#ran}}{{*outcome}}{{/ran}}{{#no_
 {{/problem}}
 {{/problems}}{{#failures}}| Result | Test | Time | Why |
 | --- | --- | ---: | --- |
-{{#failed}}| {{*status}} | {{#suite}}{{#name_code}}<code>{{/name_code}}{{*name}}{{#name_code}}</code>{{/name_code}} {{/suite}}{{#name_code}}<code>{{/name_code}}{{*name}}{{#name_code}}</code>{{/name_code}} | {{#note}}{{#time}}{{*seconds}}s{{/time}}{{/note}} | {{#short_code}}<code>{{/short_code}}{{*short}}{{#short_code}}</code>{{/short_code}} |
+{{#failed}}| {{#one}}{{*status}}{{#new}} ({{*words}}){{/new}} | {{#suite}}{{#name_code}}<code>{{/name_code}}{{*name}}{{#name_code}}</code>{{/name_code}} {{/suite}}{{#name_code}}<code>{{/name_code}}{{*name}}{{#name_code}}</code>{{/name_code}} | {{#note}}{{#time}}{{*seconds}}s{{/time}}{{/note}} | {{#short_code}}<code>{{/short_code}}{{*short}}{{#short_code}}</code>{{/short_code}}{{/one}}{{#group}}{{*status}}{{#new}} ({{*words}}){{/new}} | {{*count}} tests |  | {{#short_code}}<code>{{/short_code}}{{*short}}{{#short_code}}</code>{{/short_code}}{{/group}} |
 {{/failed}}
-{{#failed}}<details><summary>{{*status}} {{#suite}}{{#name_code}}<code>{{/name_code}}{{*name}}{{#name_code}}</code>{{/name_code}} {{/suite}}{{#name_code}}<code>{{/name_code}}{{*name}}{{#name_code}}</code>{{/name_code}}{{#note}}{{#attempts}} ({{*count}} attempts){{/attempts}}{{/note}}</summary>
+{{#failed}}<details><summary>{{#one}}{{*status}}{{#new}} ({{*words}}){{/new}} {{#suite}}{{#name_code}}<code>{{/name_code}}{{*name}}{{#name_code}}</code>{{/name_code}} {{/suite}}{{#name_code}}<code>{{/name_code}}{{*name}}{{#name_code}}</code>{{/name_code}}{{#note}}{{#attempts}} ({{*count}} attempts){{/attempts}}{{/note}}{{/one}}{{#group}}{{*status}}{{#new}} ({{*words}}){{/new}} {{*count}} tests: {{#short_code}}<code>{{/short_code}}{{*short}}{{#short_code}}</code>{{/short_code}}{{/group}}</summary>{{#tests}}
+{{#test}}
+- {{*status}}{{#new}} ({{*words}}){{/new}} {{#suite}}{{#name_code}}<code>{{/name_code}}{{*name}}{{#name_code}}</code>{{/name_code}} {{/suite}}{{#name_code}}<code>{{/name_code}}{{*name}}{{#name_code}}</code>{{/name_code}}{{#note}}{{#attempts}} ({{*count}} attempts){{/attempts}}{{#time}} {{*seconds}}s{{/time}}{{/note}}{{/test}}{{#more}}
+- ({{*count}} more tests){{/more}}{{/tests}}
 
 <pre>
 {{why}}</pre>
@@ -30,15 +42,23 @@ pub const MARKDOWN: &str = r#"## Test report: {{#ran}}{{*outcome}}{{/ran}}{{#no_
 
 </details>
 
-{{/output}}</details>
+{{/output}}{{#others}}{{#test}}- {{#suite}}{{#name_code}}<code>{{/name_code}}{{*name}}{{#name_code}}</code>{{/name_code}} {{/suite}}{{#name_code}}<code>{{/name_code}}{{*name}}{{#name_code}}</code>{{/name_code}}
+
+<pre>
+{{why}}</pre>
+
+{{/test}}{{/others}}</details>
 
 {{/failed}}{{/failures}}{{#more}}({{*count}} more failed tests: a summary on GitHub holds 1 MiB)
 {{/more}}"#;
 
-/// What the summary has of one failed test: its row and its details, the two sections `failed` of `MARKDOWN`. Render it
-/// to learn how many bytes a failed test takes.
-pub const FAILED: &str = r#"| {{*status}} | {{#suite}}{{#name_code}}<code>{{/name_code}}{{*name}}{{#name_code}}</code>{{/name_code}} {{/suite}}{{#name_code}}<code>{{/name_code}}{{*name}}{{#name_code}}</code>{{/name_code}} | {{#note}}{{#time}}{{*seconds}}s{{/time}}{{/note}} | {{#short_code}}<code>{{/short_code}}{{*short}}{{#short_code}}</code>{{/short_code}} |
-<details><summary>{{*status}} {{#suite}}{{#name_code}}<code>{{/name_code}}{{*name}}{{#name_code}}</code>{{/name_code}} {{/suite}}{{#name_code}}<code>{{/name_code}}{{*name}}{{#name_code}}</code>{{/name_code}}{{#note}}{{#attempts}} ({{*count}} attempts){{/attempts}}{{/note}}</summary>
+/// What the summary has of one failed test, or of a group of them: its row and its details, the two sections `failed` of
+/// `MARKDOWN`. Render it to learn how many bytes it takes.
+pub const FAILED: &str = r#"| {{#one}}{{*status}}{{#new}} ({{*words}}){{/new}} | {{#suite}}{{#name_code}}<code>{{/name_code}}{{*name}}{{#name_code}}</code>{{/name_code}} {{/suite}}{{#name_code}}<code>{{/name_code}}{{*name}}{{#name_code}}</code>{{/name_code}} | {{#note}}{{#time}}{{*seconds}}s{{/time}}{{/note}} | {{#short_code}}<code>{{/short_code}}{{*short}}{{#short_code}}</code>{{/short_code}}{{/one}}{{#group}}{{*status}}{{#new}} ({{*words}}){{/new}} | {{*count}} tests |  | {{#short_code}}<code>{{/short_code}}{{*short}}{{#short_code}}</code>{{/short_code}}{{/group}} |
+<details><summary>{{#one}}{{*status}}{{#new}} ({{*words}}){{/new}} {{#suite}}{{#name_code}}<code>{{/name_code}}{{*name}}{{#name_code}}</code>{{/name_code}} {{/suite}}{{#name_code}}<code>{{/name_code}}{{*name}}{{#name_code}}</code>{{/name_code}}{{#note}}{{#attempts}} ({{*count}} attempts){{/attempts}}{{/note}}{{/one}}{{#group}}{{*status}}{{#new}} ({{*words}}){{/new}} {{*count}} tests: {{#short_code}}<code>{{/short_code}}{{*short}}{{#short_code}}</code>{{/short_code}}{{/group}}</summary>{{#tests}}
+{{#test}}
+- {{*status}}{{#new}} ({{*words}}){{/new}} {{#suite}}{{#name_code}}<code>{{/name_code}}{{*name}}{{#name_code}}</code>{{/name_code}} {{/suite}}{{#name_code}}<code>{{/name_code}}{{*name}}{{#name_code}}</code>{{/name_code}}{{#note}}{{#attempts}} ({{*count}} attempts){{/attempts}}{{#time}} {{*seconds}}s{{/time}}{{/note}}{{/test}}{{#more}}
+- ({{*count}} more tests){{/more}}{{/tests}}
 
 <pre>
 {{why}}</pre>
@@ -50,6 +70,11 @@ pub const FAILED: &str = r#"| {{*status}} | {{#suite}}{{#name_code}}<code>{{/nam
 
 </details>
 
-{{/output}}</details>
+{{/output}}{{#others}}{{#test}}- {{#suite}}{{#name_code}}<code>{{/name_code}}{{*name}}{{#name_code}}</code>{{/name_code}} {{/suite}}{{#name_code}}<code>{{/name_code}}{{*name}}{{#name_code}}</code>{{/name_code}}
+
+<pre>
+{{why}}</pre>
+
+{{/test}}{{/others}}</details>
 
 "#;

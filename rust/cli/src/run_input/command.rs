@@ -39,8 +39,9 @@ impl<W: Write> RunReader<'_, '_, W> {
         self.report
             .set_errors_are_passed_on(self.pass_on.of_command());
         match &prepared.stand_in {
-            Some(path) => {
-                self.run_with_stand_ins(prepared, path)?;
+            Some(stand_in) => {
+                self.are_held = stand_in.again.retries.count > 0;
+                self.run_with_stand_ins(prepared, stand_in)?;
                 Ok(None)
             }
             None => Ok(Some(self.run_in_one_pipe(prepared)?)),
@@ -97,12 +98,15 @@ impl<W: Write> RunReader<'_, '_, W> {
     fn run(&mut self, prepared: &Prepared) -> Result<CommandEnd, Failure> {
         match RunningCommand::start(prepared.command()) {
             Ok((mut command, output)) => {
+                let started = Instant::now();
                 let streams = ProcessStreams::start([(Stream::Output, Box::new(output))]);
                 let mut streams = streams.map_err(unread)?;
                 self.read_output(&mut streams, &mut command, |reader, _, piece| {
                     reader.take_some(piece)
                 })?;
-                self.wait_for(&mut command)
+                let end = self.wait_for(&mut command)?;
+                self.report.add_duration(started.elapsed());
+                Ok(end)
             }
             Err(error) => Ok(not_started(&error)),
         }
@@ -140,6 +144,8 @@ impl<W: Write> RunReader<'_, '_, W> {
 
     /// Waits for the end of a command whose output has ended.
     pub(super) fn wait_for(&mut self, command: &mut RunningCommand) -> Result<CommandEnd, Failure> {
+        // What builds the tests holds nothing back.
+        self.are_held &= self.started.is_none();
         loop {
             if let Some(status) = command.status().map_err(not_waited)? {
                 return Ok(end_of(status));

@@ -1,39 +1,62 @@
 //! Runs a command whose test programs have stand-ins. Their lines are those of the run, and so are some that say what
 //! became of the command. What cargo and the tests write to standard error is passed on, and is no part of the run.
 
-use super::command::not_started;
-use super::{RunReader, unread};
+use super::command::{Built, not_started};
+use super::failed_list::FailedList;
+use super::{FOLDER, RunReader, unread};
 use crate::command::cargo_messages::CargoMessages;
 use crate::command::end::process_end_of;
+use crate::command::failed_tests::FailedTests;
 use crate::command::prepared::Prepared;
-use crate::command::programs::{PROGRAMS, ProgramsFile};
-use crate::command::run_line::{CancelledBy, CommandLine, RunLine, is_run_line};
+use crate::command::programs::{PROGRAMS, Plan, ProgramsFile, TestProgram};
+use crate::command::run_line::{CancelledBy, CommandLine, MissingTests, RunLine, is_run_line};
 use crate::command::running::RunningCommand;
+use crate::command::stand_in::documentation_of;
+use crate::command::standing_in::StandIn;
+use crate::command::workspace::Workspace;
+use crate::kept_run::{KeptRun, LIMIT as MOST_KEPT};
 use crate::lines::Lines;
 use crate::process_streams::{ProcessStreams, Stream};
 use crate::program::Failure;
 use crate::report::fault::Fault;
+use crate::report::missing_words;
 use deodarsieve::CancelReason;
 use deodarsieve_run::{CommandEnd, Line};
+use std::collections::BTreeSet;
 use std::io::Write;
 use std::mem;
+use std::time::{Duration, Instant};
+
+/// The message if only the tests that failed last were to run, and their list cannot be found.
+const NO_FOLDER: &str = "cargo does not say where the list of failed tests is, so all tests run";
+
+/// The front of the message if the file of that list has none.
+const UNREADABLE: &str = "the list of the failed tests cannot be read";
 
 impl<W: Write> RunReader<'_, '_, W> {
-    /// Builds the tests of a command, and runs it with stand-ins, which are the program at `path`. The last line of the run
-    /// says how it ended.
+    /// Builds the tests of a command, and runs it with stand-ins. The last line of the run says how it ended. The run is kept
+    /// in cargo's target folder, unless it is saved, and so is the list of the tests that failed.
     pub(super) fn run_with_stand_ins(
         &mut self,
         prepared: &Prepared,
-        path: &str,
+        stand_in: &StandIn,
     ) -> Result<(), Failure> {
         let mut file = ProgramsFile::create()?;
+        if self.streams.saved.is_none() {
+            self.kept = Some(KeptRun::new(MOST_KEPT));
+        }
+        self.report.collect_results(stand_in.measures);
         self.take_command_line(CommandLine::Started)?;
-        let (end, error) = self.build_and_watch(prepared, &mut file, path)?;
+        let (end, error) = self.build_and_watch(prepared, stand_in, &mut file)?;
         self.note_cancel_in_run()?;
+        let time = self.started.map(|started| started.elapsed());
         self.take_command_line(CommandLine::Ended {
             end: process_end_of(&end),
             error,
-        })
+            time: time.map(in_seconds),
+        })?;
+        self.keep();
+        Ok(())
     }
 
     /// Builds the tests of a command if cargo can do that alone, and runs it if that succeeds. What the compiler says is part
@@ -41,24 +64,123 @@ impl<W: Write> RunReader<'_, '_, W> {
     fn build_and_watch(
         &mut self,
         prepared: &Prepared,
+        stand_in: &StandIn,
         file: &mut ProgramsFile,
-        path: &str,
     ) -> Result<(CommandEnd, Option<String>), Failure> {
-        let Some(build) = &prepared.build else {
-            return self.watch(prepared, file, path);
+        let built = match &prepared.build {
+            Some(build) => Some(self.build(prepared, build)?),
+            None => None,
         };
-        let built = self.build(prepared, build)?;
-        // The saved file gets these lines when the first program has started. If the file is in the folder of a package,
-        // the cargo that runs the programs may take a change of it for one of the package.
+        // Two cargos that begin at once wait for each other, and say so.
+        let workspace = stand_in.workspace.ask();
+        if let (Some(kept), Some(workspace)) = (&mut self.kept, &workspace) {
+            kept.set_folder(workspace.target.join(FOLDER));
+        }
+        let mut programs = Vec::new();
+        if let Some(built) = built {
+            self.take_messages_of(&built)?;
+            if let Some(end) = self.end_before_run(&built.end) {
+                return Ok((end, built.error()));
+            }
+            self.streams.others.repeated = built.repeated(prepared.is_quiet());
+            programs = built.programs;
+        }
+        let failed = self.failed_tests(stand_in, workspace, &programs);
+        file.write(&Plan {
+            programs,
+            failed,
+            retries: stand_in.again.retries,
+        })?;
+        self.watch(prepared, file, &stand_in.path)
+    }
+
+    /// Takes what the compiler said in a build. The file of the run gets these lines when the first program has started: if
+    /// the file is in the folder of a package, the cargo that runs the programs may take a change of it for one of the package.
+    fn take_messages_of(&mut self, built: &Built) -> Result<(), Fault> {
         for line in built.messages.lines() {
             self.take_own_line(line.as_bytes())?;
         }
-        if let Some(end) = self.end_before_run(&built.end) {
-            return Ok((end, built.error()));
+        Ok(())
+    }
+
+    /// Reads the list of the tests that failed last. Returns those that run if no others do, and says how many they are.
+    fn failed_tests(
+        &mut self,
+        stand_in: &StandIn,
+        workspace: Option<Workspace>,
+        programs: &[TestProgram],
+    ) -> Option<FailedTests> {
+        if !stand_in.has_names {
+            return None;
         }
-        self.streams.others.repeated = built.repeated(prepared.is_quiet());
-        file.write(&built.programs)?;
-        self.watch(prepared, file, path)
+        let wants = stand_in.again.only_failed;
+        let Some(workspace) = workspace else {
+            if wants {
+                self.say(NO_FOLDER);
+            }
+            return None;
+        };
+        let names = names_of(stand_in, &workspace, programs);
+        let mut list = FailedList::read(workspace.target.join(FOLDER), names);
+        let mut selected = None;
+        if list.is_unreadable {
+            let so = if wants { "all tests run, and " } else { "" };
+            self.say(&format!("{UNREADABLE}, so {so}a new one is written"));
+        } else if wants {
+            let (failed, message) = list.select(stand_in.has_filters);
+            self.say(&message);
+            selected = failed;
+        }
+        self.failed = Some(list);
+        selected
+    }
+
+    /// Ends the kept run, and writes the list of the tests that failed. If that fails, says so.
+    fn keep(&mut self) {
+        let (kept, failed) = (self.kept.take(), self.failed.take());
+        let _held = self.interrupt.hold();
+        if let Some(message) = kept.and_then(KeptRun::finish) {
+            self.say(&message);
+        }
+        let is_cancelled = self.cancelled.is_some();
+        if let (Some(failed), Some(results)) = (failed, self.report.results())
+            && let Err(error) = failed.finish(results, is_cancelled)
+        {
+            self.say(&format!(
+                "the list of the failed tests cannot be written: {error}"
+            ));
+        }
+    }
+
+    /// Writes a message to standard error.
+    fn say(&self, message: &str) {
+        let message = format!("test-report: {message}");
+        self.streams.line.borrow_mut().say(&message);
+    }
+
+    /// Takes what became of the tests of the programs that have ended.
+    fn take_results(&mut self) {
+        let Some(failed) = &mut self.failed else {
+            return;
+        };
+        let mut missing = Vec::new();
+        for (program, results) in self.report.take_results() {
+            let tests = failed.take(&program, &results).into_iter();
+            missing.extend(tests.map(|test| missing_words(&test, &program)));
+        }
+        for words in missing {
+            self.say(&words);
+        }
+    }
+
+    /// Takes the tests of which a line of a stand-in says that their program no longer has them.
+    fn take_missing(&mut self, missing: &MissingTests) {
+        if let Some(failed) = &mut self.failed {
+            failed.take_missing(missing);
+        }
+        for test in &missing.tests {
+            self.say(&missing_words(test, &missing.name));
+        }
     }
 
     /// Runs the command, which starts the programs that the file names. Returns how it ended, and the error that it ended
@@ -75,6 +197,7 @@ impl<W: Write> RunReader<'_, '_, W> {
             Ok(started) => started,
             Err(error) => return Ok((not_started(&error), Some(error.to_string()))),
         };
+        self.started = Some(Instant::now());
         let streams = ProcessStreams::start([
             (Stream::Output, Box::new(output)),
             (Stream::Error, Box::new(errors)),
@@ -82,6 +205,9 @@ impl<W: Write> RunReader<'_, '_, W> {
         let mut messages = CargoMessages::new(path);
         self.read_streams(streams.map_err(unread)?, &mut running, &mut messages)?;
         let end = self.wait_for(&mut running)?;
+        for line in messages.take_last_words(self.report.has_failure()) {
+            self.pass_message_on(&line);
+        }
         let error = messages.take_error();
         let failed = !matches!(end, CommandEnd::Status { code: 0 });
         Ok((end, error.filter(|_| failed)))
@@ -99,7 +225,7 @@ impl<W: Write> RunReader<'_, '_, W> {
             match stream {
                 Stream::Output => reader.take_run_piece(piece)?,
                 Stream::Error => error_lines.take(piece, |line| {
-                    reader.pass_message_on(&messages.take(line));
+                    messages.take(line, |line| reader.pass_message_on(line));
                     Ok::<_, Failure>(())
                 })?,
             }
@@ -109,7 +235,7 @@ impl<W: Write> RunReader<'_, '_, W> {
             self.take_run_line(&line)?;
         }
         if let Some(line) = error_lines.end() {
-            self.pass_message_on(&messages.take(&line));
+            messages.take(&line, |line| self.pass_message_on(line));
         }
         Ok(())
     }
@@ -128,7 +254,11 @@ impl<W: Write> RunReader<'_, '_, W> {
 
     /// Takes a line that stand-ins wrote, without its line feed.
     fn take_run_line(&mut self, line: &[u8]) -> Result<(), Fault> {
-        self.streams.others.are_wanted = self.pass_on.of_command() && !is_run_line(line);
+        let is_own = is_run_line(line);
+        self.streams.others.are_wanted = self.pass_on.of_command() && !is_own;
+        if is_own && let Some(missing) = MissingTests::read(line) {
+            self.take_missing(&missing);
+        }
         self.take_saved_line(line)
     }
 
@@ -144,9 +274,13 @@ impl<W: Write> RunReader<'_, '_, W> {
         if let Some(saved) = &mut streams.saved {
             saved.write_line(line);
         }
+        if let Some(kept) = &mut self.kept {
+            kept.write_line(line);
+        }
         self.report
             .on_line(line, &mut streams.output, &mut streams.others)?;
         streams.others.are_wanted = self.pass_on.of_command();
+        self.take_results();
         Ok(())
     }
 
@@ -186,5 +320,31 @@ impl<W: Write> RunReader<'_, '_, W> {
         if let Some(saved) = &mut self.streams.saved {
             saved.flush();
         }
+        if let Some(kept) = &mut self.kept {
+            kept.flush();
+        }
     }
+}
+
+/// Returns the names of the programs that a command runs: those that cargo has built, and those of documentation tests.
+fn names_of(
+    stand_in: &StandIn,
+    workspace: &Workspace,
+    programs: &[TestProgram],
+) -> BTreeSet<String> {
+    let packages: BTreeSet<_> = programs.iter().map(|program| &program.package).collect();
+    // If cargo has not built the programs first, it runs documentation tests alone.
+    let is_run = |package: &&String| programs.is_empty() || packages.contains(package);
+    let documented = workspace
+        .documented
+        .iter()
+        .filter(|it| stand_in.documents && is_run(it));
+    let documented = documented.map(|package| documentation_of(package));
+    let names = programs.iter().map(|program| program.name.clone());
+    names.chain(documented).collect()
+}
+
+/// Returns a time in seconds, in thousandths.
+fn in_seconds(time: Duration) -> f64 {
+    (time.as_secs_f64() * 1_000.0).round() / 1_000.0
 }

@@ -112,6 +112,13 @@ pub fn assert_output(output: &Output, stdout: &[u8], stderr: &[u8], status: i32,
     assert_eq!(output.status.code(), Some(status), "{what}: exit status");
 }
 
+/// Returns the end of a text for people in a pipe: the list, the numbers in words, and the summary for scripts.
+pub fn end_of_text(list: &str, numbers: &str, summary: &str, outcome: &str) -> String {
+    let rule = "------------\n";
+    let above = if list.is_empty() { "" } else { rule };
+    format!("{above}{list}{numbers}\n{rule}     Summary {summary}\noutcome {outcome}\n")
+}
+
 /// Runs an action in a thread, and returns its result, which must come within a minute.
 pub fn soon<T: Send + 'static>(what: &str, action: impl FnOnce() -> T + Send + 'static) -> T {
     let (sender, receiver) = mpsc::channel();

@@ -1,235 +1,40 @@
-//! The forms that are documents: JUnit's XML, the page and the summary.
+//! The page and the summary.
 
 use crate::facts::{
-    Facts, Suite, escaped, failure_of, outcome, own_name, problem_line, seconds, shown, status_of,
-    stopped_lines, suite_of, summary, title, without_returns,
+    Facts, Suite, escaped, failure_of, outcome, own_name, seconds, shown, status_of, suite_of,
+    summary, without_colours, without_returns,
 };
-use crate::json::{Shown, ShownFailure};
+use crate::groups::{Group, attempts_of, differ, groups, heading, left_out};
+use crate::json::Shown;
 use crate::text::slowest_tests;
 use crate::xml::{Element, read, resolved};
 use deodarsieve::RunStats;
-use deodarsieve_run::{Failure, FailureKind, Note, TestNote, TestOutcome};
+use deodarsieve_run::{Note, TestNote, TestOutcome};
 
 /// Returns a text with the characters that XML does not allow replaced, as a template does.
-fn allowed(text: &str) -> String {
+pub fn allowed(text: &str) -> String {
     text.replace(['\u{fffe}', '\u{ffff}'], "\u{fffd}")
 }
 
 /// Returns a text of the run as a document shows it.
-fn value(text: &str) -> String {
-    allowed(&escaped(text, false))
+pub fn value(text: &str) -> String {
+    allowed(&escaped(text))
 }
 
-/// What is shown of a run, by its notes.
-struct Notes<'a> {
-    failures: Vec<(&'a TestNote, &'a ShownFailure)>,
-    problems: Vec<(&'a Note, Option<&'a str>)>,
+/// Returns a text of a test as a document shows it. Only the page has its colours, as classes.
+pub fn said(text: &str) -> String {
+    value(&without_colours(text))
 }
 
-impl<'a> Notes<'a> {
-    /// Returns what is shown of the notes of a run.
-    fn of(facts: &'a Facts, shown: &'a Shown) -> Notes<'a> {
-        let tests = facts.failures().map(|(test, _)| test);
-        let reasons = shown.problems.iter().map(Option::as_deref);
-        Notes {
-            failures: tests.zip(&shown.failures).collect(),
-            problems: facts
-                .problems()
-                .map(|(note, _)| note)
-                .zip(reasons)
-                .collect(),
-        }
-    }
-
-    /// Returns what is shown of a failed test.
-    fn failure(&self, test: &TestNote) -> &'a ShownFailure {
-        let mut failures = self.failures.iter();
-        let found = failures.find(|(found, _)| std::ptr::eq(*found, test));
-        found.expect("the failed test is shown").1
-    }
-
-    /// Returns what explains a problem.
-    fn reason(&self, note: &Note) -> Option<&'a str> {
-        let mut problems = self.problems.iter();
-        let found = problems.find(|(found, _)| std::ptr::eq(*found, note));
-        found.expect("the problem is shown").1
-    }
+/// Returns a text of a test of which all is shown, as a document shows it.
+pub fn said_whole(text: &str) -> String {
+    value(&without_returns(&without_colours(text)))
 }
 
-/// Returns a suite of JUnit's XML with the numbers of its cases.
-fn with_counts(element: Element, cases: &[Element], has_skipped: bool) -> Element {
-    let count = |name| {
-        let has = |case: &&Element| case.inner().any(|inner| inner.name == name);
-        cases.iter().filter(has).count()
-    };
-    let element = element
-        .with("tests", cases.len())
-        .with("failures", count("failure"))
-        .with("errors", count("error"));
-    if has_skipped {
-        element.with("skipped", count("skipped"))
-    } else {
-        element
-    }
-}
-
-/// Returns an element with a time, if it is known.
-fn with_time(element: Element, time: Option<u64>) -> Element {
-    match time {
-        Some(micros) => element.with("time", seconds(micros)),
-        None => element,
-    }
-}
-
-/// Returns the test case of a problem.
-fn problem_case(line: &str, kind: &str, why: Option<&str>) -> Element {
-    let line = allowed(line);
-    let text = why.map_or(line.clone(), value);
-    let error = Element::new("error")
-        .with("message", &line)
-        .with("type", kind)
-        .text(&text);
-    Element::new("testcase")
-        .with("name", line)
-        .with("classname", "test-report")
-        .elements([error])
-}
-
-/// Returns the test case of a note.
-fn case_of(note: &Note, class: &str, notes: &Notes<'_>) -> Element {
-    let Note::Test(test) = note else {
-        let line = problem_line(note).expect("it is a problem");
-        let kind = match note {
-            Note::NotRun(_) => "not run",
-            _ => "disagreement",
-        };
-        return problem_case(&line, kind, notes.reason(note));
-    };
-    let case = Element::new("testcase")
-        .with("name", allowed(&shown(own_name(test))))
-        .with("classname", class);
-    let case = with_time(case, test.time);
-    match &test.outcome {
-        TestOutcome::Passed { .. } => {
-            let flaky = Element::new("flakyFailure")
-                .with("message", "attempt failed")
-                .with("type", "flaky");
-            let failed = test.attempts.max(1) - 1;
-            case.elements(vec![flaky; failed.min(20)])
-        }
-        TestOutcome::Skipped { reason } => {
-            let skipped = Element::new("skipped");
-            case.elements([match reason {
-                Some(reason) => skipped.with("message", value(&without_returns(reason))),
-                None => skipped,
-            }])
-        }
-        TestOutcome::Stopped => {
-            let lines = stopped_lines(&[note]).expect("the test was stopped");
-            let words = lines.strip_prefix(own_name(test)).expect("it is named");
-            let skipped = Element::new("skipped");
-            case.elements([skipped.with("message", value(words.trim_start_matches(' ')))])
-        }
-        TestOutcome::Failed(failure) => failed_case(case, failure, notes.failure(test)),
-    }
-}
-
-/// Returns the test case of a failed test.
-fn failed_case(mut case: Element, failure: &Failure, shown: &ShownFailure) -> Element {
-    if let Some(place) = &shown.place {
-        case = case
-            .with("file", allowed(&escaped(&place.file, true)))
-            .with("line", &place.line);
-    }
-    let (name, kind) = match failure.kind {
-        FailureKind::Crashed(_) => ("error", "crashed"),
-        FailureKind::TimedOut => ("failure", "test timeout"),
-        FailureKind::Failed | FailureKind::WithoutEnd | FailureKind::Flaky => {
-            ("failure", "test failure")
-        }
-    };
-    let reason = Element::new(name)
-        .with("message", value(&shown.short))
-        .with("type", kind)
-        .text(&value(&shown.why));
-    let output = failure.stdout.as_ref().map(|output| {
-        let output = value(&without_returns(output));
-        Element::new("system-out").text(&output)
-    });
-    case.elements([reason]).elements(output)
-}
-
-/// Returns a suite of JUnit's XML.
-fn junit_suite(suite: &Suite<'_>, notes: &Notes<'_>) -> Element {
-    let name = allowed(&shown(suite.name.map_or("(no suite)", |name| name)));
-    let class = name.replace('.', "_");
-    let cases: Vec<_> = suite
-        .notes
-        .iter()
-        .map(|note| case_of(note, &class, notes))
-        .collect();
-    let element = with_counts(Element::new("testsuite").with("name", name), &cases, true);
-    let time = match suite.over {
-        Some(Note::Suite(over)) => over.time,
-        _ => None,
-    };
-    with_time(element, time).elements(cases)
-}
-
-/// Returns the problems of no suite as test cases. That no test ran is the last one.
-fn own_cases(facts: &Facts, notes: &Notes<'_>) -> Vec<Element> {
-    let is_own = |note: &&Note| crate::facts::suite_of_problem(note).is_none();
-    let own = facts.problems().map(|(note, _)| note).filter(is_own);
-    let mut cases: Vec<_> = own.map(|note| case_of(note, "", notes)).collect();
-    if let Some(line) = facts.cancelled_line() {
-        cases.push(problem_case(&line, "cancelled", None));
-    }
-    if outcome(&facts.end) == "no-tests-run" {
-        cases.push(problem_case("no test ran", "no tests", None));
-    }
-    cases
-}
-
-/// Asserts that JUnit's XML has one test case for each test with a result and for each problem, with its facts, and
-/// nothing else.
-pub fn check_junit(facts: &Facts, shown: &Shown, junit: &str) {
-    let notes = Notes::of(facts, shown);
-    let mut suites: Vec<_> = facts
-        .suites()
-        .iter()
-        .map(|suite| junit_suite(suite, &notes))
-        .collect();
-    let own = own_cases(facts, &notes);
-    if !own.is_empty() {
-        let element = Element::new("testsuite").with("name", "test-report");
-        suites.push(with_counts(element, &own, true).elements(own));
-    }
-    let cases: Vec<Element> = suites.iter().flat_map(Element::inner).cloned().collect();
-    let wanted = with_counts(
-        Element::new("testsuites").with("name", "test-report"),
-        &cases,
-        false,
-    );
-    let wanted = with_time(wanted, facts.end.time).elements(suites);
-    let document = junit.strip_prefix("<?xml version=\"1.0\" encoding=\"UTF-8\"?>\n");
-    let found = read(document.expect("the document begins with its version"));
-    let found = found.without_spaces(&["testsuites", "testsuite", "testcase"]);
-    assert_eq!(found, wanted);
-    let failed = facts.end.stats.finished_count - facts.end.stats.passed;
-    assert_eq!(
-        cases
-            .iter()
-            .filter(|case| case.inner().any(|it| it.name == "failure"))
-            .count(),
-        failed - facts.end.crashed
-    );
-    assert_eq!(
-        cases.len(),
-        facts.tests().count()
-            + facts.problems().count()
-            + usize::from(outcome(&facts.end) == "no-tests-run")
-            + usize::from(facts.cancelled_line().is_some())
-    );
+/// Returns the names of the suite of a test and of the test as a document shows them.
+pub fn shown_title(test: &TestNote) -> String {
+    let suite = suite_of(test).map(|suite| value(&shown(suite)) + " ");
+    suite.unwrap_or_default() + &value(&shown(own_name(test)))
 }
 
 /// Returns the summary of a run as documents have it: the time is at its end.
@@ -248,7 +53,7 @@ fn document_summary(facts: &Facts) -> String {
 /// Returns the lines of the problems of a document, and what explains them.
 fn problems(facts: &Facts, shown: &Shown) -> Vec<(String, Option<String>)> {
     let own = facts.problems().zip(&shown.problems);
-    let own = own.map(|((_, line), why)| (allowed(&line), why.as_deref().map(value)));
+    let own = own.map(|((_, line), why)| (value(&line), why.as_deref().map(value)));
     let cancelled = facts.cancelled_line().map(|line| (line, None));
     let no_tests = outcome(&facts.end) == "no-tests-run";
     let no_tests = no_tests.then(|| ("no test ran".to_string(), None));
@@ -258,31 +63,6 @@ fn problems(facts: &Facts, shown: &Shown) -> Vec<(String, Option<String>)> {
 /// Returns a time as a table has it.
 fn cell(time: Option<u64>) -> String {
     time.map_or("–".to_string(), |micros| seconds(micros) + "s")
-}
-
-/// Returns the heading of a failed test in the page.
-fn heading(test: &TestNote, failure: &Failure) -> String {
-    let attempts = match test.attempts {
-        0 | 1 => String::new(),
-        attempts => format!(" ({attempts} attempts)"),
-    };
-    let time = test
-        .time
-        .map_or(String::new(), |micros| format!(" {}s", seconds(micros)));
-    let suite = suite_of(test).map_or(String::new(), |suite| shown(suite) + " ");
-    let name = shown(own_name(test));
-    allowed(&format!(
-        "{} {suite}{name}{attempts}{time}",
-        status_of(failure)
-    ))
-}
-
-/// Returns the whole output of a failed test and the number of its lines, if the reason leaves a part of it out.
-fn left_out(failure: &Failure, shown: &ShownFailure) -> Option<(usize, String)> {
-    let output = failure.stdout.as_ref()?;
-    let output = without_returns(output.trim_end());
-    let is_shown = shown.is_partial && !output.is_empty();
-    is_shown.then(|| (output.split('\n').count(), value(&output)))
 }
 
 /// Returns the numbers of tests in words, each with the number.
@@ -306,7 +86,8 @@ fn rows(facts: &Facts) -> Vec<(&'static str, Vec<String>)> {
         .tests()
         .filter(|test| failure_of(test).is_none() && test.attempts > 1);
     let flaky = flaky.filter(|test| matches!(test.outcome, TestOutcome::Passed { .. }));
-    let flaky = flaky.map(|test| format!("{}{}{}", title(test), test.attempts, cell(test.time)));
+    let flaky =
+        flaky.map(|test| format!("{}{}{}", shown_title(test), test.attempts, cell(test.time)));
     let suites = facts.suites();
     let suites = suites.iter().filter_map(suite_row);
     let timed = slowest_tests(facts);
@@ -314,12 +95,12 @@ fn rows(facts: &Facts) -> Vec<(&'static str, Vec<String>)> {
     let slowest = timed.iter().take(10).map(|test| {
         let time = test.time.unwrap_or(0);
         let share = u128::from(time) * 100 / u128::from(longest);
-        format!("{}{share} %{}s", title(test), seconds(time))
+        format!("{}{share} %{}s", shown_title(test), seconds(time))
     });
     let skips = facts.tests().filter_map(|test| match &test.outcome {
         TestOutcome::Skipped {
             reason: Some(reason),
-        } => Some(title(test) + &escaped(&without_returns(reason), false)),
+        } => Some(shown_title(test) + &said_whole(reason)),
         _ => None,
     });
     vec![
@@ -352,7 +133,7 @@ fn suite_row(suite: &Suite<'_>) -> Option<String> {
     } else {
         words.join(", ")
     };
-    let name = shown(suite.name.map_or("(no suite)", |name| name));
+    let name = value(&shown(suite.name.map_or("(no suite)", |name| name)));
     Some(format!("{name}{bar}{words}{}", cell(over.time)))
 }
 
@@ -391,9 +172,12 @@ pub fn check_page(facts: &Facts, shown: &Shown, html: &str) {
     assert_eq!(first(&all, "p"), Some(document_summary(facts)));
     let problems = problems(facts, shown);
     check_problems(&all, &problems);
-    let outputs = check_failures(&all, facts, shown);
+    let groups = groups(facts, shown);
+    let outputs = check_failures(&all, &groups);
     let (tables, rows) = check_tables(&all, facts);
-    let failed = shown.failures.len();
+    let failed = groups.len();
+    let several = groups.iter().filter(|group| group.0.len() > 1);
+    let named: Vec<_> = several.map(|group| group.0.len()).collect();
     let reasons = problems.iter().filter(|(_, why)| why.is_some()).count();
     let lists = usize::from(!problems.is_empty());
     check_elements(
@@ -401,8 +185,8 @@ pub fn check_page(facts: &Facts, shown: &Shown, html: &str) {
         &[
             ("html", 1),
             ("style", 1),
-            ("ul", lists),
-            ("li", problems.len()),
+            ("ul", lists + named.len()),
+            ("li", problems.len() + named.iter().sum::<usize>()),
             ("details", failed + outputs),
             ("summary", failed + outputs),
             ("h3", failed),
@@ -467,42 +251,98 @@ fn check_attributes(element: &Element) {
 
 /// Asserts the problems of a page.
 fn check_problems(page: &[&Element], wanted: &[(String, Option<String>)]) {
-    let lines = page.iter().filter(|element| element.name == "li");
-    let found: Vec<String> = lines.map(|line| line.content()).collect();
+    let found = section(page, "Problems of the run").map_or(Vec::new(), |section| {
+        let all = section.all();
+        let lines = all.iter().filter(|element| element.name == "li");
+        lines.map(|line| line.content()).collect()
+    });
     let text = |(line, why): &(String, Option<String>)| line.clone() + why.as_deref().unwrap_or("");
     assert_eq!(found, wanted.iter().map(text).collect::<Vec<_>>());
 }
 
-/// Asserts the failed tests of a page, and returns how many have an output.
-fn check_failures(page: &[&Element], facts: &Facts, shown: &Shown) -> usize {
-    let details = section(page, "Failed tests").map_or(Vec::new(), |section| {
-        section
-            .inner()
-            .filter(|element| element.name == "details")
-            .collect()
+/// Asserts the failed tests of a page, and returns how many have an output of their own.
+fn check_failures(page: &[&Element], groups: &[Group<'_>]) -> usize {
+    let entries = section(page, "Failed tests").map_or(Vec::new(), |section| {
+        let inner = section.inner();
+        inner.filter(|element| element.name == "details").collect()
     });
-    assert_eq!(details.len(), shown.failures.len());
+    assert_eq!(entries.len(), groups.len());
     let mut outputs = 0;
-    for ((details, (test, failure)), shown) in
-        details.iter().zip(facts.failures()).zip(&shown.failures)
-    {
-        let found: Vec<String> = details.inner().map(Element::content).collect();
-        let mut wanted = vec![heading(test, failure), value(&shown.why)];
-        if let Some((lines, output)) = left_out(failure, shown) {
+    for (entry, group) in entries.iter().zip(groups) {
+        let is_open = entry.attribute("open") == Some("open");
+        assert_eq!(is_open, groups.len() <= 10);
+        let mut wanted = vec![group.page_heading()];
+        if let [_, _, ..] = group.0.as_slice() {
+            let rows = group.0.iter().map(|test| {
+                let own = group.own_text(test).map(|(what, lines, text)| {
+                    outputs += 1;
+                    format!("\n{what}, {lines} lines\n{text}\n")
+                });
+                format!(
+                    "{}{}\n",
+                    heading(test.test, test.failure),
+                    own.unwrap_or_default()
+                )
+            });
+            wanted.push(format!("\n{}", rows.collect::<String>()));
+        }
+        let first = &group.0[0];
+        wanted.push(said(&first.shown.why));
+        if let Some((lines, output)) = left_out(first.failure, first.shown) {
             wanted.push(format!("\noutput, {lines} lines\n{output}\n"));
             outputs += 1;
         }
-        let found: Vec<_> = found
-            .iter()
-            .map(|text| text.trim_start_matches('\n'))
-            .collect();
-        let wanted: Vec<_> = wanted
-            .iter()
-            .map(|text| text.trim_start_matches('\n'))
-            .collect();
+        let found: Vec<String> = entry.inner().map(Element::content).collect();
         assert_eq!(found, wanted);
     }
     outputs
+}
+
+/// Returns the row and the heading of a group in the summary.
+fn summary_headings(group: &Group<'_>) -> (String, String) {
+    let first = &group.0[0];
+    let status = status_of(first.failure);
+    if group.0.len() > 1 {
+        let (count, words) = (group.0.len(), group.words());
+        return (
+            format!("| {status} | {count} tests |  | {words} |\n"),
+            format!("{status} {count} tests: {words}"),
+        );
+    }
+    let time = first.test.time;
+    let time = time.map_or(String::new(), |micros| seconds(micros) + "s");
+    let (title, short) = (shown_title(first.test), value(&first.shown.short));
+    (
+        format!("| {status} | {title} | {time} | {short} |\n"),
+        format!("{status} {title}{}", attempts_of(first.test)),
+    )
+}
+
+/// Returns the details of a group in the summary.
+fn summary_details(group: &Group<'_>) -> String {
+    let first = &group.0[0];
+    let mut names = String::new();
+    if group.0.len() > 1 {
+        let rows = group.0.iter();
+        let rows = rows.map(|test| format!("\n- {}", heading(test.test, test.failure)));
+        names = format!("\n{}", rows.collect::<String>());
+    }
+    let output = left_out(first.failure, first.shown);
+    let output = output.map_or(String::new(), |(lines, output)| {
+        format!("<details><summary>output, {lines} lines</summary>\n\n<pre>\n{output}</pre>\n\n</details>\n\n")
+    });
+    let others = group.0[1..].iter();
+    let others = others.filter(|other| differ(&first.shown.why, &other.shown.why));
+    let others = others.map(|other| {
+        let (title, why) = (shown_title(other.test), said(&other.shown.why));
+        format!("- {title}\n\n<pre>\n{why}</pre>\n\n")
+    });
+    format!(
+        "<details><summary>{}</summary>{names}\n\n<pre>\n{}</pre>\n\n{output}{}</details>\n\n",
+        summary_headings(group).1,
+        said(&first.shown.why),
+        others.collect::<String>()
+    )
 }
 
 /// Returns the summary in Markdown, with its references resolved and without `<code>`.
@@ -522,36 +362,14 @@ fn markdown(facts: &Facts, shown: &Shown) -> String {
     if !problems.is_empty() {
         text += "\n";
     }
-    if shown.failures.is_empty() {
+    let groups = groups(facts, shown);
+    if groups.is_empty() {
         return text;
     }
     text += "| Result | Test | Time | Why |\n| --- | --- | ---: | --- |\n";
-    let failures: Vec<_> = facts.failures().zip(&shown.failures).collect();
-    for ((test, failure), shown) in &failures {
-        let time = test
-            .time
-            .map_or(String::new(), |micros| seconds(micros) + "s");
-        let (status, short) = (status_of(failure), value(&shown.short));
-        text += &format!(
-            "| {status} | {} | {time} | {short} |\n",
-            allowed(&title(test))
-        );
-    }
+    text.extend(groups.iter().map(|group| summary_headings(group).0));
     text += "\n";
-    for ((test, failure), shown) in &failures {
-        let attempts = match test.attempts {
-            0 | 1 => String::new(),
-            attempts => format!(" ({attempts} attempts)"),
-        };
-        let heading = format!("{} {}{attempts}", status_of(failure), allowed(&title(test)));
-        let output = left_out(failure, shown).map_or(String::new(), |(lines, output)| {
-            format!("<details><summary>output, {lines} lines</summary>\n\n<pre>\n{output}</pre>\n\n</details>\n\n")
-        });
-        let why = value(&shown.why);
-        text += &format!(
-            "<details><summary>{heading}</summary>\n\n<pre>\n{why}</pre>\n\n{output}</details>\n\n"
-        );
-    }
+    text.extend(groups.iter().map(summary_details));
     text
 }
 
@@ -559,17 +377,22 @@ fn markdown(facts: &Facts, shown: &Shown) -> String {
 pub fn check_summary(facts: &Facts, shown: &Shown, summary: &str) {
     assert_eq!(plain(summary), markdown(facts, shown));
     let tags = |tag: &str| summary.matches(tag).count();
-    let outputs = facts
-        .failures()
-        .zip(&shown.failures)
-        .filter(|((_, failure), shown)| left_out(failure, shown).is_some())
-        .count();
-    let failed = shown.failures.len();
+    let groups = groups(facts, shown);
+    let firsts = groups.iter().map(|group| &group.0[0]);
+    let outputs = firsts.filter(|first| left_out(first.failure, first.shown).is_some());
+    let outputs = outputs.count();
+    let others = groups.iter().map(|group| {
+        let others = group.0[1..].iter();
+        let why = &group.0[0].shown.why;
+        others.filter(|other| differ(why, &other.shown.why)).count()
+    });
+    let others: usize = others.sum();
+    let failed = groups.len();
     let reasons = shown.problems.iter().flatten().count();
     for (tag, count) in [
         ("<details>", failed + outputs),
         ("<summary>", failed + outputs),
-        ("<pre>", failed + outputs + reasons),
+        ("<pre>", failed + outputs + others + reasons),
     ] {
         let end = tag.replace('<', "</");
         assert_eq!((tags(tag), tags(&end)), (count, count), "{tag}");

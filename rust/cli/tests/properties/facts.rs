@@ -380,6 +380,21 @@ impl Programs {
     }
 }
 
+/// Returns a text without colours: `ESC [`, digits and semicolons, and `m`.
+pub fn without_colours(text: &str) -> String {
+    let mut parts = text.split("\u{1b}[");
+    let mut plain = parts.next().unwrap_or("").to_string();
+    for part in parts {
+        match part.split_once('m') {
+            Some((numbers, rest)) if numbers.chars().all(|c| c.is_ascii_digit() || c == ';') => {
+                plain += rest;
+            }
+            _ => plain += &format!("\u{1b}[{part}"),
+        }
+    }
+    plain
+}
+
 /// Returns true if a note is of a test that was stopped.
 pub fn is_stopped(note: &Note) -> bool {
     test_of(note).is_some_and(|test| matches!(test.outcome, TestOutcome::Stopped))
@@ -559,10 +574,10 @@ fn disagreement_line(disagreement: &Disagreement) -> String {
         Disagreement::OutsideSuite { started } => {
             format!("{started} tests started outside of a suite")
         }
-        Disagreement::Cargo(report) => format!("cargo: {}", escaped(&report.line, true)),
+        Disagreement::Cargo(report) => format!("cargo: {}", controlled(&report.line, true)),
         Disagreement::Damaged { text } => format!(
             "a damaged line says that a test or a suite failed: {}",
-            escaped(text, true)
+            controlled(text, true)
         ),
         Disagreement::NoEvent { .. } => "no line of the input is of a test run".to_string(),
         Disagreement::Command(end) => command_line(end),
@@ -575,7 +590,10 @@ fn disagreement_line(disagreement: &Disagreement) -> String {
 fn command_line(end: &CommandEnd) -> String {
     match end {
         CommandEnd::NotStarted { error } => {
-            format!("the command could not be started: {}", escaped(error, true))
+            format!(
+                "the command could not be started: {}",
+                controlled(error, true)
+            )
         }
         CommandEnd::Signal { number } => format!("the command ended by signal {number}"),
         CommandEnd::Status { code } => {
@@ -585,7 +603,7 @@ fn command_line(end: &CommandEnd) -> String {
         CommandEnd::Error { words, .. } => {
             let first = words.split('\n').next().unwrap_or("");
             let first = first.strip_suffix('\r').unwrap_or(first);
-            format!("cargo: {}", escaped(first, true))
+            format!("cargo: {}", controlled(first, true))
         }
     }
 }
@@ -633,25 +651,37 @@ fn said_text(said: &SaidNumbers) -> String {
     }
 }
 
-/// Returns a name as it is shown: at most its first 1,024 bytes.
+/// Returns a name as it is shown in a text: at most its first 1,024 bytes.
 pub fn shown(name: &str) -> String {
     let mut end = name.len().min(1_024);
     while !name.is_char_boundary(end) {
         end -= 1;
     }
     let more = if end < name.len() { ".." } else { "" };
-    escaped(&name[..end], true) + more
+    controlled(&name[..end], true) + more
 }
 
-/// Returns a text with the escapes that every form but JSON has. In a line, tabs and line feeds are escapes, too.
-pub fn escaped(text: &str, is_line: bool) -> String {
-    let escape = |at: usize, c: char| {
+/// Returns a text without control characters and characters that change the direction of writing. In a line, tabs and line
+/// feeds are escapes, too.
+pub fn controlled(text: &str, is_line: bool) -> String {
+    let escape = |c: char| {
         let is_kept = matches!(c, '\t' | '\n') && !is_line;
-        let is_control = c.is_control() && !is_kept;
-        if is_control || turns_writing(c) || begins_command(text, at, c) {
+        if c.is_control() && !is_kept || turns_writing(c) {
             format!("\\u{{{:x}}}", u32::from(c))
         } else {
             c.to_string()
+        }
+    };
+    text.chars().map(escape).collect()
+}
+
+/// Returns a text with the escapes that a document has.
+pub fn escaped(text: &str) -> String {
+    let escape = |at: usize, c: char| {
+        if begins_command(text, at, c) {
+            format!("\\u{{{:x}}}", u32::from(c))
+        } else {
+            controlled(&c.to_string(), false)
         }
     };
     text.char_indices().map(|(at, c)| escape(at, c)).collect()

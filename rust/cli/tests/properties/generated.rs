@@ -5,7 +5,7 @@ use crate::random::Random;
 use serde_json::{Value, json};
 
 /// Pieces of names and of outputs.
-const PIECES: [&str; 44] = [
+const PIECES: [&str; 48] = [
     "a",
     "tests::adds",
     "log",
@@ -17,6 +17,10 @@ const PIECES: [&str; 44] = [
     "\r\n",
     "\r",
     "\u{1b}[1m",
+    "\u{1b}[38;5;9m",
+    "\u{1b}[0m",
+    "\u{1b}[22;31m",
+    "\u{1b}[K",
     "\u{1b}]8;;http://x\u{7}",
     "\u{0}",
     "\u{7f}",

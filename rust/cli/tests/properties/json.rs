@@ -3,7 +3,7 @@
 
 use crate::facts::{
     Facts, MARKS, Suite, crash_end, failure_of, outcome, own_name, problem_line, stopped_lines,
-    suite_of_problem, without_returns,
+    suite_of_problem, without_colours, without_returns,
 };
 use deodarsieve::RunStats;
 use deodarsieve_cli::report::options::{Options, OutputDisplay};
@@ -18,6 +18,36 @@ pub struct ShownFailure {
     /// True if `why` leaves out some lines or parts of lines.
     pub is_partial: bool,
     pub place: Option<Place>,
+}
+
+impl ShownFailure {
+    /// Returns the place in words, such as `src/lib.rs:9:32`.
+    pub fn place_words(&self) -> Option<String> {
+        let Place { file, line, column } = self.place.as_ref()?;
+        let column = column.as_ref().map(|column| format!(":{column}"));
+        Some(format!("{file}:{line}{}", column.unwrap_or_default()))
+    }
+
+    /// Returns the short reason without the place.
+    pub fn reason(&self) -> String {
+        let Some(place) = self.place_words() else {
+            return self.short.clone();
+        };
+        let is_digit = |c: char| c.is_ascii_digit();
+        let named = format!("panicked at {place}:");
+        if let Some(at) = self.short.find(&named)
+            && !self.short[at + named.len()..].starts_with(is_digit)
+        {
+            let (before, rest) = (
+                &self.short[..at],
+                self.short[at + named.len()..].trim_start(),
+            );
+            return before.to_string() + if rest.is_empty() { "panicked" } else { rest };
+        }
+        let front = self.short.strip_prefix(&format!("{place}: "));
+        let end = || self.short.strip_suffix(&format!(" at {place}"));
+        front.or_else(end).unwrap_or(&self.short).to_string()
+    }
 }
 
 /// Returns a text of the run as the forms except JSON show it: of a line with more than 512 bytes the first 384, the number
@@ -59,6 +89,9 @@ pub struct Shown {
 
     /// What explains the problems, in their order.
     pub problems: Vec<Option<String>>,
+
+    /// How much is shown of why tests failed.
+    pub options: Options,
 }
 
 /// Returns a number as JSON.
@@ -247,8 +280,8 @@ pub fn check(facts: &Facts, json: &str, options: Options) -> Shown {
                     .iter()
                     .position(|(found, _)| std::ptr::eq(*found, test));
                 let (_, shown) = found.swap_remove(place.expect("the failed test is in JSON"));
-                let output = facts.output_of(test, failure);
-                check_failure(test, (failure, output), &shown, options);
+                let output = without_colours(facts.output_of(test, failure));
+                check_failure(test, (failure, &output), &shown, options);
                 let why = with_cut_lines(&shown.why, options.output);
                 ShownFailure {
                     short: with_cut_lines(&shown.short, options.output),
@@ -262,6 +295,7 @@ pub fn check(facts: &Facts, json: &str, options: Options) -> Shown {
             .iter()
             .map(|why| Some(with_cut_lines(why.as_deref()?, options.output)))
             .collect(),
+        options,
     }
 }
 
@@ -422,7 +456,7 @@ pub fn reason_of(test: &TestNote, failure: &Failure) -> String {
         }
     };
     let parts = [reason, failure.message.clone()];
-    parts.into_iter().flatten().collect::<Vec<_>>().join("\n")
+    without_colours(&parts.into_iter().flatten().collect::<Vec<_>>().join("\n"))
 }
 
 /// Asserts that a place is in what is known of the test, and inside the repository.
@@ -444,5 +478,6 @@ fn check_place(test: &TestNote, (failure, output): (&Failure, &str), place: &Pla
         failure.message.as_deref().unwrap_or(""),
         crash,
     ];
-    assert!(texts.iter().any(|text| text.contains(&wanted)), "{wanted}");
+    let has_place = |text: &&str| without_colours(text).contains(&wanted);
+    assert!(texts.iter().any(has_place), "{wanted}");
 }

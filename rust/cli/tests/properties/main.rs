@@ -8,11 +8,14 @@
 
 #[path = "../common/mod.rs"]
 mod common;
+mod comparisons;
 mod documents;
 mod facts;
 mod generated;
 mod generated_programs;
+mod groups;
 mod json;
+mod junit;
 mod mutated;
 mod program;
 mod random;
@@ -43,7 +46,7 @@ fn check(run: &[Vec<u8>], options: Options) {
     assert_eq!(succeeds, is_sound && ran);
     let shown = json::check(&facts, &written.json, options);
     text::check(&facts, &shown, &written, options);
-    documents::check_junit(&facts, &shown, &written.junit);
+    junit::check(&facts, &shown, &written.junit);
     documents::check_page(&facts, &shown, &written.html);
     documents::check_summary(&facts, &shown, &written.markdown);
     for text in [&written.junit, &written.html, &written.markdown] {
@@ -164,4 +167,20 @@ fn mutated_runs() {
             check_named(&format!("{name}, mutated {number}"), &[mutated], number);
         }
     }
+}
+
+#[test]
+fn runs_that_are_compared() {
+    let folder = common::Folder::new("properties-compared");
+    let path = folder.0.join("earlier");
+    let runs = mutated::stored_runs();
+    let mut random = Random::new(2);
+    let mut count = 0;
+    for (name, run) in &runs {
+        let (_, other) = &runs[random.below(runs.len())];
+        let mutated = mutated::mutated(run, other, &mut random);
+        let result = std::panic::catch_unwind(|| comparisons::check(run, &[mutated], &path));
+        count += result.unwrap_or_else(|_| panic!("the run is {name}, mutated"));
+    }
+    assert!(count > 100, "{count}");
 }

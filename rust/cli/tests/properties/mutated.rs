@@ -1,6 +1,7 @@
 //! Stored runs, and the same with damage.
 
 use crate::random::Random;
+use bstr::ByteSlice;
 use std::fs;
 use std::path::{Path, PathBuf};
 
@@ -9,7 +10,8 @@ const BYTES: [u8; 14] = [
     b'\n', b'"', b'{', b'}', b'\\', b'9', b'#', b':', b'$', b'<', b'@', 0x1b, 0x80, 0xff,
 ];
 
-/// Returns the stored runs of this package and, inside the repository, of its examples, with their names.
+/// Returns the stored runs of this package and, inside the repository, of its examples, with their names. They have no
+/// backtraces, which JSON has whole and the other forms have not.
 pub fn stored_runs() -> Vec<(String, Vec<u8>)> {
     let package = Path::new(env!("CARGO_MANIFEST_DIR"));
     let folders = ["tests/samples/test-report", "../../examples/test-report"];
@@ -25,6 +27,7 @@ pub fn stored_runs() -> Vec<(String, Vec<u8>)> {
         .iter()
         .map(|path| {
             let run = fs::read(path).expect("the run can be read");
+            let run = run.replace("stack backtrace:", "stack-backtrace:");
             (path.display().to_string(), run)
         })
         .collect()

@@ -4,7 +4,8 @@
 use crate::common::{Folder, path_of, run};
 use crate::facts::{Facts, outcome};
 use crate::generated::run_of;
-use crate::written::{OPTIONS, Written};
+use crate::written::Written;
+use deodarsieve_cli::report::options::Options;
 use std::fs;
 use std::process::{Command, Output};
 
@@ -37,7 +38,7 @@ fn the_program_writes_what_the_library_does() {
             continue;
         };
         let facts = Facts::of(&files);
-        let (written, _) = Written::of(&files, OPTIONS);
+        let (written, _) = Written::of(&files, Options::DEFAULT);
         let outcome = outcome(&facts.end);
         for (form, wanted) in [
             ("text", &written.text),
@@ -94,7 +95,14 @@ fn a_command_has_the_report_of_its_lines_and_of_its_end() {
             .expect("the program runs")
     };
     let output = command("cat \"$0\"; exit 101");
-    assert_eq!(text_of(&output), alone);
+    // Of a command the text has its time by the clock as well.
+    let (before, timed) = text_of(&output).split_once(" in ").map_or_else(
+        || panic!("there is no time"),
+        |(before, timed)| (before.to_string(), timed.to_string()),
+    );
+    let (time, after) = timed.split_once(" s\n").expect("the time has a unit");
+    assert!(time.parse::<f64>().is_ok_and(|time| time < 10.0), "{time}");
+    assert_eq!(format!("{before}\n{after}"), alone);
     assert_eq!(output.stderr, b"bye\n");
     let ended = command("exit 4");
     let line = "the command ended with status 4, and no line says why\n";

@@ -1,8 +1,8 @@
 //! The forms that are written while the run is read: `text`, `names`, `github`, and text with annotations.
 
 use crate::facts::{
-    Facts, MARKS, bracket, crash_end, escaped, failure_of, is_stopped, outcome, problem_line,
-    shown, status_of, summary, title, turns_writing, without_returns,
+    Facts, MARKS, bracket, controlled, crash_end, is_stopped, outcome, own_name, problem_line,
+    shown, status_of, summary, title, turns_writing, without_colours, without_returns,
 };
 use crate::json::{Place, Shown, ShownFailure, limited, reason_of, with_cut_lines};
 use crate::written::{SLOWEST, Written};
@@ -10,9 +10,6 @@ use deodarsieve::{CancelReason, TestOutputErrorSlice};
 use deodarsieve_cli::report::options::Options;
 use deodarsieve_run::{Crash, Disagreement, Failure, FailureKind, Note, TestNote, TestOutcome};
 use std::cmp::Reverse;
-
-/// The sequences that colour a word.
-const STYLES: [&str; 3] = ["\u{1b}[1;31m", "\u{1b}[1;32m", "\u{1b}[1;33m"];
 
 /// What ends a colour.
 const RESET: &str = "\u{1b}[0m";
@@ -41,7 +38,34 @@ impl Kind {
         if self.is_raw {
             text.to_string()
         } else {
-            escaped(text, false)
+            controlled(text, false)
+        }
+    }
+
+    /// Returns a text that has no texts of tests which are as they were. Of others the whole text has its escapes.
+    fn own(self, text: &str) -> String {
+        if self.is_raw {
+            without_commands(text)
+        } else {
+            text.to_string()
+        }
+    }
+
+    /// Returns such a text after another one in its line.
+    fn inside(self, text: &str) -> String {
+        if self.is_raw {
+            without_marks(text)
+        } else {
+            text.to_string()
+        }
+    }
+
+    /// Returns the whole text.
+    fn whole(self, text: &str) -> String {
+        if self.is_raw {
+            text.to_string()
+        } else {
+            without_commands(text)
         }
     }
 
@@ -67,7 +91,8 @@ impl Kind {
                     Some("as above"),
                 ];
                 let parts: Vec<_> = parts.into_iter().flatten().collect();
-                let why = limited(&without_returns(&parts.join("\n")), self.options);
+                let parts = without_colours(&parts.join("\n"));
+                let why = limited(&without_returns(&parts), self.options);
                 self.indented(&with_cut_lines(&why, self.options.output))
             }
             _ => self.indented(&shown.why),
@@ -75,9 +100,32 @@ impl Kind {
     }
 }
 
+/// Returns a text whose lines are no commands of a CI system: of `::` at the start of a line the second colon is an escape.
+fn without_commands(text: &str) -> String {
+    let lines = text
+        .split('\n')
+        .map(|line| match line.trim_start().strip_prefix("::") {
+            Some(rest) => format!("{}:\\u{{3a}}{rest}", &line[..line.len() - rest.len() - 2]),
+            None => line.to_string(),
+        });
+    without_marks(&lines.collect::<Vec<_>>().join("\n"))
+}
+
+/// Returns a text in which the bracket after two number signs and letters is an escape.
+fn without_marks(text: &str) -> String {
+    let mut parts = text.split('[');
+    let first = parts.next().unwrap_or_default().to_string();
+    parts.fold(first, |text, part| {
+        let before = text.trim_end_matches(|c: char| c == '#' || c.is_ascii_alphabetic());
+        let is_mark = text[before.len()..].contains("##");
+        text.clone() + if is_mark { "\\u{5b}" } else { "[" } + part
+    })
+}
+
 /// Returns true if the prints before a crash explain it.
 fn has_explanation(crash: &Crash) -> bool {
-    let prints = Some(crash.prints.as_bytes());
+    let prints = without_colours(&crash.prints);
+    let prints = Some(prints.as_bytes());
     TestOutputErrorSlice::heuristic_extract(prints, prints).is_some()
 }
 
@@ -94,14 +142,14 @@ fn passed_lines(test: &TestNote, kind: Kind) -> String {
     let output = match &test.outcome {
         TestOutcome::Passed {
             output: Some(output),
-        } => without_returns(output.trim_end()),
+        } => without_returns(without_colours(output).trim_end()),
         _ => String::new(),
     };
     let line = format!(
         "{} {}{}\n",
         passed_word(test),
         bracket(test.time),
-        title(test)
+        kind.inside(&title(test))
     );
     match output.as_str() {
         "" => line,
@@ -121,7 +169,7 @@ fn lines_before(facts: &Facts, shown: &Shown, kind: Kind) -> String {
     let mut reasons = shown.problems.iter();
     let mut text = String::new();
     for (place, note) in facts.notes.iter().enumerate() {
-        text += &without_report(facts, place);
+        text += &kind.own(&without_report(facts, place));
         match note {
             Note::Test(test) => match &test.outcome {
                 TestOutcome::Failed(failure) => {
@@ -131,7 +179,8 @@ fn lines_before(facts: &Facts, shown: &Shown, kind: Kind) -> String {
                         attempts => format!(" ({attempts} attempts)"),
                     };
                     let status = status_of(failure);
-                    text += &format!("{status} {}{}{times}\n", bracket(test.time), title(test));
+                    let title = kind.inside(&title(test));
+                    text += &format!("{status} {}{title}{times}\n", bracket(test.time));
                     if !is_after_interrupt(test) {
                         text += &kind.why(test, failure, shown);
                     }
@@ -140,7 +189,8 @@ fn lines_before(facts: &Facts, shown: &Shown, kind: Kind) -> String {
                     text += &passed_lines(test, kind);
                 }
                 TestOutcome::Skipped { .. } if kind.has_all => {
-                    text += &format!("SKIP {}{}\n", bracket(test.time), title(test));
+                    let title = kind.inside(&title(test));
+                    text += &format!("SKIP {}{title}\n", bracket(test.time));
                 }
                 TestOutcome::Passed { .. } | TestOutcome::Skipped { .. } | TestOutcome::Stopped => {
                 }
@@ -153,7 +203,7 @@ fn lines_before(facts: &Facts, shown: &Shown, kind: Kind) -> String {
             Note::Flaky(_) | Note::Disagreement(_) | Note::NotRun(_) | Note::Suite(_) => {}
         }
     }
-    text += &without_report(facts, facts.notes.len());
+    text += &kind.own(&without_report(facts, facts.notes.len()));
     let cancelled = facts.cancelled_line().map(|line| line + "\n");
     text + &cancelled.unwrap_or_default()
 }
@@ -168,7 +218,7 @@ fn without_report(facts: &Facts, place: usize) -> String {
 
 /// Returns the lines of a problem.
 fn problem_lines(note: &Note, why: Option<&str>, kind: Kind) -> String {
-    let line = problem_line(note).expect("it is a problem") + "\n";
+    let line = kind.own(&problem_line(note).expect("it is a problem")) + "\n";
     let lacks_events = match note {
         Note::Disagreement(Disagreement::NoEvent { .. }) => true,
         Note::Disagreement(Disagreement::Cargo(report)) => report.lacks_events,
@@ -181,8 +231,9 @@ fn problem_lines(note: &Note, why: Option<&str>, kind: Kind) -> String {
 }
 
 /// Returns a line of the list at the end.
-fn listed(status: &str, test: &TestNote, more: &str) -> String {
-    format!("{status:>12} {}{}{more}\n", bracket(test.time), title(test))
+fn listed(status: &str, test: &TestNote, kind: Kind) -> String {
+    let title = kind.inside(&title(test));
+    format!("{status:>12} {}{title}\n", bracket(test.time))
 }
 
 /// Returns the list at the end. If it has all tests, it has the slowest ones, too.
@@ -193,17 +244,18 @@ fn list(facts: &Facts, shown: &Shown, kind: Kind) -> String {
     let at_once = |test: &&TestNote| test.attempts <= 1;
     let mut text = String::new();
     if kind.has_all {
+        text += &slowest(facts, kind);
         for test in facts
             .tests()
             .filter(passed)
             .filter(at_once)
             .filter(|test| !test.slow)
         {
-            text += &listed("PASS", test, "");
+            text += &listed("PASS", test, kind);
         }
         for test in facts.tests() {
             if matches!(test.outcome, TestOutcome::Skipped { .. }) && !is_after_interrupt(test) {
-                text += &listed("SKIP", test, "");
+                text += &listed("SKIP", test, kind);
             }
         }
     }
@@ -213,7 +265,7 @@ fn list(facts: &Facts, shown: &Shown, kind: Kind) -> String {
         .filter(at_once)
         .filter(|test| test.slow)
     {
-        text += &listed("SLOW", test, "");
+        text += &listed("SLOW", test, kind);
     }
     let mut flaky: Vec<_> = facts
         .tests()
@@ -222,42 +274,98 @@ fn list(facts: &Facts, shown: &Shown, kind: Kind) -> String {
         .collect();
     flaky.sort_by_key(|test| test.ended);
     for test in flaky {
-        text += &listed(&passed_word(test), test, "");
+        text += &listed(&passed_word(test), test, kind);
     }
-    let mut failures = shown.failures.iter();
+    text += &failed_tests(facts, shown, kind);
     for note in &facts.notes {
-        match note {
-            Note::Test(test) if failure_of(test).is_some() => {
-                let shown = failures.next().expect("each failed test is shown");
-                let status = failure_of(test).map_or("", status_of);
-                if !is_after_interrupt(test) {
-                    text += &listed(status, test, &format!(": {}", kind.input(&shown.short)));
-                }
-            }
-            Note::Disagreement(_) => {
-                if let Some(line) = problem_line(note) {
-                    text += &format!("       ERROR {line}\n");
-                }
-            }
-            Note::Test(test) if is_stopped(note) && test.cancel.is_some() => {
-                text += &listed("STOPPED", test, "");
-            }
-            Note::Test(_) | Note::Flaky(_) | Note::NotRun(_) | Note::Suite(_) => {}
+        if let Note::Test(test) = note
+            && is_stopped(note)
+            && test.cancel.is_some()
+        {
+            text += &listed("STOPPED", test, kind);
         }
     }
-    if kind.has_all {
-        text += &slowest(facts);
+    for line in disagreements(facts) {
+        text += &format!("       ERROR {}\n", kind.inside(&line));
+    }
+    text
+}
+
+/// Returns the lines of the contradictions.
+fn disagreements(facts: &Facts) -> impl Iterator<Item = String> {
+    let notes = facts.notes.iter();
+    let disagreements = notes.filter(|note| matches!(note, Note::Disagreement(_)));
+    disagreements.filter_map(problem_line)
+}
+
+/// What failed tests of one entry have in common: the status, the place, and the reason without it.
+pub type Cause = (&'static str, Option<String>, String);
+
+/// Returns the failed tests with their causes: those of one cause together, where the first of them is by suite and name.
+/// A test after Ctrl-C is left out if `are_listed` is true.
+pub fn groups<'a>(
+    facts: &'a Facts,
+    shown: &Shown,
+    are_sorted: bool,
+) -> Vec<(Cause, Vec<(&'a TestNote, usize)>)> {
+    let failures = facts.failures().zip(&shown.failures).enumerate();
+    let mut failures: Vec<_> = failures
+        .map(|(place, ((test, failure), shown))| {
+            let cause = (status_of(failure), shown.place_words(), shown.reason());
+            (test, cause, place)
+        })
+        .collect();
+    if are_sorted {
+        failures.retain(|(test, _, _)| !is_after_interrupt(test));
+        failures.sort_by_key(|(test, _, _)| {
+            (test.suite.as_deref().cloned(), own_name(test).to_string())
+        });
+    }
+    let mut groups: Vec<(Cause, Vec<(&TestNote, usize)>)> = Vec::new();
+    for (test, cause, place) in failures {
+        match groups.iter_mut().find(|(own, _)| *own == cause) {
+            Some((_, tests)) => tests.push((test, place)),
+            None => groups.push((cause, vec![(test, place)])),
+        }
+    }
+    groups
+}
+
+/// Returns the lines of the failed tests in the list.
+fn failed_tests(facts: &Facts, shown: &Shown, kind: Kind) -> String {
+    let mut text = String::new();
+    for ((status, place, reason), tests) in groups(facts, shown, true) {
+        let place = place.map(|place| kind.inside(&controlled(&place, true)) + ": ");
+        let place = place.unwrap_or_default();
+        let reason = if kind.is_raw {
+            reason
+        } else {
+            controlled(&reason.replace('\t', " "), false)
+        };
+        let titles: Vec<_> = tests.iter().map(|(test, _)| title(test)).collect();
+        match titles.as_slice() {
+            [title] => {
+                let title = kind.inside(title);
+                text += &format!("{status:>12} {place}{title}: {reason}\n");
+            }
+            titles => {
+                text += &format!("{status:>12} {} tests: {place}{reason}\n", titles.len());
+                for title in titles {
+                    text += &format!("             {}\n", kind.own(title));
+                }
+            }
+        }
     }
     text
 }
 
 /// Returns the lines of the slowest tests.
-fn slowest(facts: &Facts) -> String {
+fn slowest(facts: &Facts, kind: Kind) -> String {
     let mut timed: Vec<_> = slowest_tests(facts);
     timed.truncate(SLOWEST);
     timed
         .iter()
-        .map(|test| listed("SLOWEST", test, ""))
+        .map(|test| listed("SLOWEST", test, kind))
         .collect()
 }
 
@@ -273,15 +381,59 @@ pub fn slowest_tests(facts: &Facts) -> Vec<&TestNote> {
     timed
 }
 
+/// Returns the numbers of a run that are not 0, in words.
+fn numbers_of(facts: &Facts) -> String {
+    let (stats, end) = (&facts.end.stats, &facts.end);
+    let errors = disagreements(facts).count();
+    let more = |parts: [(usize, &str); 2]| match parts {
+        [(0, _), (0, _)] => String::new(),
+        [(one, word), (0, _)] | [(0, _), (one, word)] => format!(" ({one} {word})"),
+        [(one, word), (two, other)] => format!(" ({one} {word}, {two} {other})"),
+    };
+    let failed = more([
+        (stats.failed_timed_out, "timed out"),
+        (end.crashed, "crashed"),
+    ]);
+    let passed = more([(stats.flaky, "flaky"), (stats.passed_slow, "slow")]);
+    let parts = [
+        (
+            (stats.finished_count - stats.passed) as u128,
+            format!("failed{failed}"),
+        ),
+        (
+            errors as u128,
+            if errors == 1 { "error" } else { "errors" }.to_string(),
+        ),
+        (end.not_run, "not run".to_string()),
+        (stats.passed as u128, format!("passed{passed}")),
+        (end.skipped, "skipped".to_string()),
+    ];
+    let parts = parts.iter().filter(|(number, _)| *number > 0);
+    let parts: Vec<_> = parts
+        .map(|(number, words)| format!("{number} {words}"))
+        .collect();
+    if parts.is_empty() {
+        "no test ran".to_string()
+    } else {
+        parts.join(", ")
+    }
+}
+
 /// Returns the whole text of a report.
 fn text(facts: &Facts, shown: &Shown, kind: Kind) -> String {
-    format!(
-        "{}------------\n     Summary {}\n{}outcome {}\n",
+    let list = list(facts, shown, kind);
+    let line = if list.is_empty() {
+        ""
+    } else {
+        "------------\n"
+    };
+    kind.whole(&format!(
+        "{}{line}{list}{}\n------------\n     Summary {}\noutcome {}\n",
         lines_before(facts, shown, kind),
+        numbers_of(facts),
         summary(&facts.end),
-        list(facts, shown, kind),
         outcome(&facts.end)
-    )
+    ))
 }
 
 /// Returns an annotation with the escapes that GitHub asks for.
@@ -296,60 +448,74 @@ fn annotation(kind: &str, properties: &[(&str, &str)], message: &str) -> String 
         .map(|(name, text)| format!("{name}={}", value(text)))
         .collect();
     let space = if properties.is_empty() { "" } else { " " };
-    format!(
-        "::{kind}{space}{}::{}\n",
-        properties.join(","),
-        data(message)
-    )
+    let properties = without_marks(&properties.join(","));
+    let message = without_marks(&data(message));
+    format!("::{kind}{space}{properties}::{message}\n")
 }
 
-/// Returns the annotation of a failed test.
-fn failure_annotation(test: &TestNote, shown: &ShownFailure) -> String {
-    let mut properties = Vec::new();
-    let file;
-    if let Some(Place {
-        file: path,
-        line,
-        column,
-    }) = &shown.place
-    {
-        file = escaped(path, true);
-        properties.push(("file", file.as_str()));
-        properties.push(("line", line.as_str()));
-        properties.extend(column.as_ref().map(|column| ("col", column.as_str())));
+/// Returns a text of a test in an annotation, in which GitHub has an escape of its own for a carriage return.
+fn in_annotation(text: &str) -> String {
+    let parts = text.split('\r').map(|part| controlled(part, false));
+    parts.collect::<Vec<_>>().join("\r")
+}
+
+/// Returns the annotations of the failed tests: one for those with the same cause.
+fn failure_annotations(facts: &Facts, shown: &Shown) -> String {
+    let mut text = String::new();
+    for ((_, place, reason), tests) in groups(facts, shown, false) {
+        let first = &shown.failures[tests[0].1];
+        let mut properties = Vec::new();
+        let file;
+        if let Some(Place {
+            file: path,
+            line,
+            column,
+        }) = &first.place
+        {
+            file = controlled(path, true);
+            properties.push(("file", file.as_str()));
+            properties.push(("line", line.as_str()));
+            properties.extend(column.as_ref().map(|column| ("col", column.as_str())));
+        }
+        let titles: Vec<_> = tests.iter().map(|(test, _)| title(test)).collect();
+        let place = place.map(|place| place + ": ").unwrap_or_default();
+        let (head, names) = match titles.as_slice() {
+            [title] => (title.clone(), String::new()),
+            titles => {
+                let names = limited(&titles.join("\n"), shown.options);
+                let names = with_cut_lines(&names, shown.options.output);
+                (
+                    format!("{} tests: {place}{reason}", titles.len()),
+                    format!("\n{names}"),
+                )
+            }
+        };
+        let head = in_annotation(&head);
+        properties.push(("title", head.as_str()));
+        let message = format!("{head}{names}\n{}", in_annotation(&first.why));
+        text += &annotation("error", &properties, &message);
     }
-    let title = title(test);
-    properties.push(("title", title.as_str()));
-    let message = format!("{title}\n{}", escaped(&shown.why, false));
-    annotation("error", &properties, &message)
+    text
 }
 
 /// Returns the annotations of a run.
 fn annotations(facts: &Facts, shown: &Shown) -> String {
-    let mut failures = shown.failures.iter();
     let mut reasons = shown.problems.iter();
     let mut text = String::new();
     for note in &facts.notes {
-        match note {
-            Note::Test(test) if failure_of(test).is_some() => {
-                let shown = failures.next().expect("each failed test is shown");
-                text += &failure_annotation(test, shown);
+        if matches!(note, Note::Disagreement(_) | Note::NotRun(_))
+            && let Some(mut message) = problem_line(note)
+        {
+            if let Some(why) = reasons.next().expect("each problem is shown") {
+                message += &format!("\n{}", in_annotation(why));
             }
-            Note::Disagreement(_) | Note::NotRun(_) => {
-                let Some(mut message) = problem_line(note) else {
-                    continue;
-                };
-                if let Some(why) = reasons.next().expect("each problem is shown") {
-                    message += &format!("\n{}", escaped(why, false));
-                }
-                text += &annotation("error", &[], &message);
-            }
-            Note::Test(_) | Note::Flaky(_) | Note::Suite(_) => {}
+            text += &annotation("error", &[], &message);
         }
     }
     if let Some(line) = facts.cancelled_line() {
         text += &annotation("error", &[], &line);
     }
+    text += &failure_annotations(facts, shown);
     let end = format!("{}, outcome {}", summary(&facts.end), outcome(&facts.end));
     text + &annotation("notice", &[], &end)
 }
@@ -360,18 +526,20 @@ fn commands_in(text: &str) -> (String, String) {
     lines.partition(|line| line.trim_start().starts_with("::"))
 }
 
-/// Asserts that a text has no control character except line feeds, tabs and whole colours, no character that changes the
-/// direction of writing, and no mark of a CI system.
+/// Asserts that a text has no control character except line feeds, tabs and whole styles, no character that changes the
+/// direction of writing, no mark of a CI system, and no style that goes on in the next line.
 fn assert_safe(text: &str) {
-    let mut rest = text.to_string();
-    for style in STYLES {
-        rest = rest.replace(style, RESET);
-    }
-    let words: Vec<&str> = rest.split(RESET).collect();
-    assert_eq!(words.len() % 2, 1, "a colour does not end: {text:?}");
+    let plain = without_colours(text);
     let is_safe = |c: char| matches!(c, '\t' | '\n') || !(c.is_control() || turns_writing(c));
-    assert!(words.concat().chars().all(is_safe), "{text:?}");
-    assert!(!MARKS.iter().any(|mark| text.contains(mark)), "{text:?}");
+    assert!(plain.chars().all(is_safe), "{text:?}");
+    assert!(!MARKS.iter().any(|mark| plain.contains(mark)), "{text:?}");
+    for line in text.split('\n') {
+        let last = line.rfind("\u{1b}[").map(|at| &line[at..]);
+        assert!(
+            last.is_none_or(|last| last.starts_with(RESET)),
+            "a style goes on: {text:?}"
+        );
+    }
 }
 
 /// Asserts that the forms have the facts of the run and what is shown of them, and nothing else.
@@ -395,16 +563,17 @@ pub fn check(facts: &Facts, shown: &Shown, written: &Written, options: Options) 
         is_raw: true,
         ..kind
     };
-    assert_eq!(written.raw, text(facts, shown, raw));
-    let mut uncoloured = written.all.replace(RESET, "");
-    for style in STYLES {
-        uncoloured = uncoloured.replace(style, "");
-    }
+    // A carriage return may be before a colour at the end of its line.
+    let with_marks = |text: &str| without_colours(text).replace('\r', "");
+    assert_eq!(
+        with_marks(&written.raw),
+        with_marks(&text(facts, shown, raw))
+    );
     let all = Kind {
         has_all: true,
         ..kind
     };
-    assert_eq!(uncoloured, text(facts, shown, all));
+    assert_eq!(without_colours(&written.all), text(facts, shown, all));
     assert_eq!(commands_in(&written.text).0, "");
     assert_eq!(commands_in(&written.all).0, "");
     assert_eq!(commands_in(&written.names).0, "");
@@ -413,51 +582,71 @@ pub fn check(facts: &Facts, shown: &Shown, written: &Written, options: Options) 
     assert_eq!(commands_in(&written.annotated), both);
     let names = facts
         .failures()
-        .map(|(test, _)| escaped(&test.name, true) + "\n");
-    assert_eq!(written.names, names.collect::<String>());
-    check_colours(facts, &written.all);
+        .map(|(test, _)| controlled(&test.name, true) + "\n");
+    assert_eq!(written.names, without_commands(&names.collect::<String>()));
+    check_colours(facts, shown, &written.all);
 }
 
-/// Asserts that only the words for results have a colour, each its own.
-fn check_colours(facts: &Facts, all: &str) {
-    let parts = all.split(RESET);
+/// Asserts that only the words for results and numbers have a colour, each its own.
+fn check_colours(facts: &Facts, shown: &Shown, all: &str) {
+    // What tests wrote is after four spaces, and before the list.
+    let (lines, list) = all.split_once("\n------------\n").unwrap_or(("", all));
+    let own = lines.split('\n').filter(|line| !line.starts_with("    "));
+    let own: Vec<_> = own.chain([list]).collect();
+    let own = own.join("\n");
+    let parts = own.split(RESET);
     let words = parts.filter_map(|part| part.rsplit_once('\u{1b}'));
-    let mut count = 0;
+    let (mut count, mut numbers) = (0, Vec::new());
     for (_, word) in words {
         let (style, word) = word.split_once('m').expect("a colour ends with m");
+        let is_number = word.starts_with(|c: char| c.is_ascii_digit());
         let wanted = match word {
             "FAIL" | "TIMEOUT" | "CRASH" | "ERROR" => "[1;31",
             "PASS" => "[1;32",
+            _ if is_number && (word.contains("failed") || word.contains("error")) => "[1;31",
+            _ if is_number && word.contains("passed") => "[1;32",
             _ => "[1;33",
         };
         let is_word = [
             "FAIL", "TIMEOUT", "CRASH", "ERROR", "PASS", "SKIP", "STOPPED", "SLOW", "SLOWEST",
         ]
         .contains(&word);
-        assert!(is_word || word.starts_with("FLAKY "), "{word}");
+        assert!(is_word || is_number || word.starts_with("FLAKY "), "{word}");
         assert_eq!(style, wanted, "{word}");
-        count += 1;
+        if is_number {
+            numbers.push(word);
+        } else {
+            count += 1;
+        }
     }
+    let has_numbers = numbers_of(facts) != "no test ran";
+    let wanted = if has_numbers {
+        numbers_of(facts)
+    } else {
+        String::new()
+    };
+    assert_eq!(numbers.join(", "), wanted);
     let flaky = facts
         .notes
         .iter()
         .filter(|note| matches!(note, Note::Flaky(_)))
         .count();
     let slowest = slowest_tests(facts).len().min(SLOWEST);
-    let disagreements = facts
-        .notes
-        .iter()
-        .filter(|note| matches!(note, Note::Disagreement(_)) && problem_line(note).is_some())
-        .count();
     // A test has its word when it ends and in the list. A flaky one passes before it counts. A contradiction, and a test that
     // was stopped because the run was cancelled, has one in the list alone.
     let words = |test: &TestNote| match &test.outcome {
         TestOutcome::Stopped => usize::from(test.cancel.is_some()),
         TestOutcome::Passed { .. } if test.attempts > 1 => usize::from(!is_after_interrupt(test)),
-        TestOutcome::Passed { .. } | TestOutcome::Skipped { .. } | TestOutcome::Failed(_) => {
+        TestOutcome::Passed { .. } | TestOutcome::Skipped { .. } => {
             1 + usize::from(!is_after_interrupt(test))
         }
+        TestOutcome::Failed(_) => 1,
     };
     let tests: usize = facts.tests().map(words).sum();
-    assert_eq!(count, tests + flaky + disagreements + slowest);
+    // Failed tests with the same cause have one word in the list.
+    let listed = groups(facts, shown, true).len();
+    assert_eq!(
+        count,
+        tests + flaky + disagreements(facts).count() + slowest + listed
+    );
 }

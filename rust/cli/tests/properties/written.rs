@@ -3,40 +3,26 @@
 use crate::SLOW;
 use crate::facts::lines_of;
 use deodarsieve::{FinalStatusLevel, StatusLevel, TestOutputDisplay};
+use deodarsieve_cli::report::comparison::EarlierRun;
 use deodarsieve_cli::report::options::{Options, OutputDisplay};
-use deodarsieve_cli::report::{Document, Ended, Files, Format, Json, Report};
+use deodarsieve_cli::report::{Document, Ended, FailedNames, Files, Format, Json, Report};
 use std::collections::VecDeque;
-
-/// The options of a report for which none are given.
-pub const OPTIONS: Options = Options {
-    limit: 4_096,
-    output: OutputDisplay::Auto,
-    raw: false,
-    color: false,
-    status_level: StatusLevel::Fail,
-    final_status_level: FinalStatusLevel::Slow,
-    failure_output: TestOutputDisplay::Immediate,
-    success_output: TestOutputDisplay::Never,
-    passed_limit: usize::MAX,
-    slowest: 0,
-    no_tests_pass: false,
-};
 
 /// Options that say how much is shown of why a test failed.
 pub const AMOUNTS: [Options; 4] = [
-    OPTIONS,
+    Options::DEFAULT,
     Options {
         limit: 50,
-        ..OPTIONS
+        ..Options::DEFAULT
     },
     Options {
         output: OutputDisplay::Short,
-        ..OPTIONS
+        ..Options::DEFAULT
     },
     Options {
         output: OutputDisplay::Whole,
         limit: usize::MAX,
-        ..OPTIONS
+        ..Options::DEFAULT
     },
 ];
 
@@ -84,7 +70,26 @@ fn reported(
     files: Files,
     others: &mut Vec<u8>,
 ) -> (String, Ended) {
-    let mut report = Report::new(options, format, files, SLOW, VecDeque::new());
+    let report = Report::new(options, format, files, SLOW, VecDeque::new());
+    finished(report, run, others)
+}
+
+/// Returns the end of a report of a run that is compared with an earlier one, with all documents except JUnit's.
+pub fn compared(run: &[Vec<u8>], options: Options, earlier: EarlierRun) -> Ended {
+    let files = Files {
+        junit: false,
+        html: true,
+        markdown: true,
+        json: true,
+        names: false,
+    };
+    let mut report = Report::new(options, Format::Text, files, SLOW, VecDeque::new());
+    report.compare_with(earlier);
+    finished(report, run, &mut Vec::new()).1
+}
+
+/// Returns what a report writes of a run, and its end. The lines that are passed on are added to `others`.
+fn finished(mut report: Report, run: &[Vec<u8>], others: &mut Vec<u8>) -> (String, Ended) {
     let mut output = Vec::new();
     for (place, file) in run.iter().enumerate() {
         if place > 0 {
@@ -109,6 +114,7 @@ impl Written {
             html: true,
             markdown: true,
             json: true,
+            names: true,
         };
         let annotations = options;
         let in_form = |options, format| {
@@ -125,13 +131,16 @@ impl Written {
             let document = document.as_ref().expect("the file is wanted");
             document.as_str().to_string()
         };
+        let names = in_form(options, Format::Names);
+        let names_file = end.files.names.as_ref().map(FailedNames::as_str);
+        assert_eq!(names_file, Some(names.as_str()));
         let written = Written {
             text,
             all: in_form(with_all_tests(options), Format::Text),
             raw: in_form(raw, Format::Text),
             annotated: in_form(options, Format::Annotated { annotations }),
             github: in_form(options, Format::Github { annotations }),
-            names: in_form(options, Format::Names),
+            names,
             junit: document(&end.files.junit),
             html: document(&end.files.html),
             markdown: document(&end.files.markdown),

@@ -8,7 +8,7 @@ use deodarsieve_cli::program_io::std_device::{StdSink, StdSource};
 use deodarsieve_cli::report::{Files, Format};
 use deodarsieve_cli::run_digest_engine::count::count;
 use deodarsieve_cli::run_digest_engine::extract::extract;
-use deodarsieve_tests::reports::{OPTIONS, new_report, write_report};
+use deodarsieve_tests::reports::{OPTIONS, end_of_text, group_text, new_report, write_report};
 use serde_json::Value;
 use std::hint::black_box;
 use std::rc::Rc;
@@ -122,10 +122,10 @@ fn reported_with(files: Files, lines: String, expected: String) -> Work {
 /// Returns the report of a run whose tests pass.
 fn reported_passed(size: usize) -> Work {
     let count = share(size, 1_000_000);
-    let expected = format!(
-        "------------\n     Summary {count} tests run: {count} passed (0 flaky), \
-         0 failed (0 timed out, 0 crashed), 0 skipped, 0 not run\noutcome success\n"
+    let summary = format!(
+        "{count} tests run: {count} passed (0 flaky), 0 failed (0 timed out, 0 crashed), 0 skipped, 0 not run"
     );
+    let expected = end_of_text("", &format!("{count} passed"), &summary, "success");
     reported(lines("ok", count, |_| String::new()), expected)
 }
 
@@ -145,6 +145,14 @@ fn lines_below(log: &str, explanation: &str) -> String {
     format!("{shown}    ({hidden} more lines of output)\n")
 }
 
+/// What the failed tests of a run have in common.
+const CAUSE: &str = "src/pool.rs:41:9: no room left";
+
+/// Returns the name of a test and that of its suite.
+fn title(number: usize) -> String {
+    format!("suite 1 {}", name(number))
+}
+
 /// Returns the report of a run whose tests write a log and panic.
 fn reported_failed(size: usize) -> Work {
     let count = share(size, 2_000);
@@ -162,18 +170,12 @@ fn reported_failed(size: usize) -> Work {
         let below = lines_below(&log, &explanation);
         format!("FAIL suite 1 {}\n{below}", name(number))
     };
-    let listed = |number| {
-        format!(
-            "        FAIL suite 1 {}: panicked at src/pool.rs:41:9: no room left\n",
-            name(number)
-        )
-    };
-    let expected = format!(
-        "{}------------\n     Summary {count} tests run: 0 passed (0 flaky), \
-         {count} failed (0 timed out, 0 crashed), 0 skipped, 0 not run\n{}outcome failed\n",
-        (0..count).map(failure).collect::<String>(),
-        (0..count).map(listed).collect::<String>()
+    let summary = format!(
+        "{count} tests run: 0 passed (0 flaky), {count} failed (0 timed out, 0 crashed), 0 skipped, 0 not run"
     );
+    let list = group_text(CAUSE, (0..count).map(title).collect());
+    let end = end_of_text(&list, &format!("{count} failed"), &summary, "failed");
+    let expected = (0..count).map(failure).collect::<String>() + &end;
     reported(lines("failed", count, more), expected)
 }
 
@@ -183,6 +185,7 @@ const JUNIT_AND_HTML: Files = Files {
     html: true,
     markdown: false,
     json: false,
+    names: false,
 };
 
 /// Returns the report of a run of which every hundredth test panics, with the texts of files.
@@ -202,21 +205,17 @@ fn reported_mixed(size: usize, files: Files) -> Work {
         let name = name(*number);
         format!("FAIL suite 1 {name}\n    thread 'main' {HEAD}\n    no room left\n")
     };
-    let listed = |number: &usize| {
-        format!(
-            "        FAIL suite 1 {}: {HEAD} no room left\n",
-            name(*number)
-        )
-    };
     let (lost, passed) = (failed.len(), count - failed.len());
-    let expected = format!(
-        "{}------------\n     Summary [{:>4}.{:03}s] {count} tests run: {passed} passed (0 flaky), \
-         {lost} failed (0 timed out, 0 crashed), 0 skipped, 0 not run\n{}outcome failed\n",
-        failed.iter().map(failure).collect::<String>(),
+    let summary = format!(
+        "[{:>4}.{:03}s] {count} tests run: {passed} passed (0 flaky), \
+         {lost} failed (0 timed out, 0 crashed), 0 skipped, 0 not run",
         passed / 4,
         passed % 4 * 250,
-        failed.iter().map(listed).collect::<String>(),
     );
+    let list = group_text(CAUSE, failed.iter().copied().map(title).collect());
+    let numbers = format!("{lost} failed, {passed} passed");
+    let end = end_of_text(&list, &numbers, &summary, "failed");
+    let expected = failed.iter().map(failure).collect::<String>() + &end;
     reported_with(files, suite_lines("failed", count, test), expected)
 }
 

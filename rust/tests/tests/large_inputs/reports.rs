@@ -2,7 +2,7 @@
 //! 20,000 suites and 20,000 tests that run at once.
 
 use deodarsieve_cli::report::{Files, Format};
-use deodarsieve_tests::reports::{OPTIONS, new_report, write_report};
+use deodarsieve_tests::reports::{OPTIONS, end_of_text, group_text, new_report, write_report};
 
 /// The greatest number of bytes that are shown of the explanation of a failure.
 const LIMIT: usize = OPTIONS.limit;
@@ -15,13 +15,14 @@ fn reported(input: &str) -> String {
     String::from_utf8(written).expect("the report is UTF-8")
 }
 
-/// Returns a summary of tests without times that all ran, none of which is flaky, timed out or crashed.
-fn summary(passed: usize, failed: usize) -> String {
+/// Returns the end of a report of tests without times that all ran, none of which is flaky, timed out or crashed.
+fn end(list: &str, numbers: &str, passed: usize, failed: usize) -> String {
     let run = passed + failed;
-    format!(
-        "------------\n     Summary {run} tests run: {passed} passed (0 flaky), \
-         {failed} failed (0 timed out, 0 crashed), 0 skipped, 0 not run\n"
-    )
+    let summary = format!(
+        "{run} tests run: {passed} passed (0 flaky), {failed} failed (0 timed out, 0 crashed), 0 skipped, 0 not run"
+    );
+    let outcome = if failed == 0 { "success" } else { "failed" };
+    end_of_text(list, numbers, &summary, outcome)
 }
 
 /// Returns the member of a suite's lines that names its binary, as nextest writes it.
@@ -59,7 +60,7 @@ fn failed(name: &str, stdout: &str) -> String {
 
 #[test]
 fn a_run_of_three_megabytes() {
-    let (mut input, mut failures, mut list) = (suite_of(25_000, ""), String::new(), String::new());
+    let (mut input, mut failures, mut names) = (suite_of(25_000, ""), String::new(), Vec::new());
     for number in 0..25_000 {
         let name = format!("pool::tests::case_{number}");
         input += &started(&name);
@@ -68,15 +69,16 @@ fn a_run_of_three_megabytes() {
             failures += &format!(
                 "FAIL suite 1 {name}\n    log\n    thread 'a' panicked at b:1:2:\n    why\n"
             );
-            list += &format!("        FAIL suite 1 {name}: panicked at b:1:2: why\n");
+            names.push(format!("suite 1 {name}"));
         } else {
             input += &ok(&name);
         }
     }
     input += &suite_end("failed", "");
     assert!(input.len() > 3_000_000);
-    let wanted = format!("{failures}{}{list}outcome failed\n", summary(24_975, 25));
-    assert_eq!(reported(&input), wanted);
+    let list = group_text("b:1:2: why", names);
+    let end = end(&list, "25 failed, 24975 passed", 24_975, 25);
+    assert_eq!(reported(&input), failures + &end);
 }
 
 /// A line of the output of a test.
@@ -85,11 +87,8 @@ const LINE: &str = "read 4096 bytes of a frame\n";
 /// Returns the report of a test that failed, with these lines of why it failed.
 fn report_of_one(why: &str) -> String {
     let lines: String = why.lines().map(|line| format!("    {line}\n")).collect();
-    let list = "        FAIL suite 1 a: panicked at b:1:2: why\n";
-    format!(
-        "FAIL suite 1 a\n{lines}{}{list}outcome failed\n",
-        summary(0, 1)
-    )
+    let list = "        FAIL b:1:2: suite 1 a: why\n";
+    format!("FAIL suite 1 a\n{lines}{}", end(list, "1 failed", 0, 1))
 }
 
 #[test]
@@ -143,7 +142,7 @@ fn a_test_with_a_megabyte_of_output() {
 
 #[test]
 fn two_thousand_suites_one_after_another() {
-    let (mut input, mut failures, mut list) = (String::new(), String::new(), String::new());
+    let (mut input, mut failures, mut names) = (String::new(), String::new(), Vec::new());
     for number in 1..=2_000 {
         input += &suite_of(2, "");
         input += &started("adds");
@@ -154,14 +153,15 @@ fn two_thousand_suites_one_after_another() {
             input += &suite_end("failed", "");
             failures +=
                 &format!("FAIL suite {number} divides\n    thread 'a' panicked at b:1:2:\n");
-            list += &format!("        FAIL suite {number} divides: panicked at b:1:2:\n");
+            names.push(format!("suite {number} divides"));
         } else {
             input += &ok("divides");
             input += &suite_end("ok", "");
         }
     }
-    let wanted = format!("{failures}{}{list}outcome failed\n", summary(3_900, 100));
-    assert_eq!(reported(&input), wanted);
+    let list = group_text("b:1:2: panicked", names);
+    let end = end(&list, "100 failed, 3900 passed", 3_900, 100);
+    assert_eq!(reported(&input), failures + &end);
 }
 
 #[test]
@@ -176,7 +176,7 @@ fn twenty_thousand_suites_side_by_side() {
             .map(|number| suite_end("ok", &key_of(number)))
             .collect(),
     ];
-    let wanted = format!("{}outcome success\n", summary(20_000, 0));
+    let wanted = end("", "20000 passed", 20_000, 0);
     assert_eq!(reported(&input.concat()), wanted);
 }
 
@@ -189,6 +189,6 @@ fn twenty_thousand_tests_at_once() {
         all().map(|name| ok(&name)).collect(),
         suite_end("ok", ""),
     ];
-    let wanted = format!("{}outcome success\n", summary(20_000, 0));
+    let wanted = end("", "20000 passed", 20_000, 0);
     assert_eq!(reported(&input.concat()), wanted);
 }

@@ -2,6 +2,7 @@
 
 use crate::{Case, OPTIONS, assert_reports, reported};
 use deodarsieve_cli::report::Format;
+use deodarsieve_tests::reports::end_of_text;
 
 #[test]
 fn ends_without_a_start() {
@@ -18,9 +19,10 @@ fn ends_without_a_start() {
 "#,
             notes: "a suite ended that had not started: failed\n\
                 FAIL a\n    no output was captured\n1 tests started outside of a suite\n",
+            numbers: "1 failed, 2 errors, 1 passed",
             summary: "2 tests run: 1 passed (0 flaky), 1 failed (0 timed out, 0 crashed), 0 skipped, 0 not run",
-            list: "       ERROR a suite ended that had not started: failed\n        \
-                FAIL a: no output was captured\n       \
+            list: "        FAIL a: no output was captured\n       \
+                ERROR a suite ended that had not started: failed\n       \
                 ERROR 1 tests started outside of a suite\n",
             outcome: "failed",
         },
@@ -33,6 +35,7 @@ fn ends_without_a_start() {
 {"type":"suite","event":"ok"}
 "#,
             notes: "FAIL a\n    no output was captured\n1 tests started outside of a suite\n",
+            numbers: "1 failed, 1 error",
             summary: "1 tests run: 0 passed (0 flaky), 1 failed (0 timed out, 0 crashed), 0 skipped, 0 not run",
             list: "        FAIL a: no output was captured\n       ERROR 1 tests started outside of a suite\n",
             outcome: "failed",
@@ -52,6 +55,7 @@ fn ends_without_a_start() {
                 d ended ok, and had not started\n\
                 suite 1: its last line says ok, but 0 of its tests passed and 1 failed\n\
                 suite 1: 1 of 2 tests were not run\n",
+            numbers: "1 failed, 3 errors, 1 not run, 1 skipped",
             summary: "1 tests run: 0 passed (0 flaky), 1 failed (0 timed out, 0 crashed), 1 skipped, 1 not run",
             list: "        FAIL suite 1 b: no output was captured\n       \
                 ERROR b ended failed, and had not started\n       \
@@ -82,9 +86,11 @@ fn suites() {
                 CRASH suite 1 a\n    one of 2 tests that ran when its process ended\n\
                 FAIL suite 2 b\n    no output was captured\nb ended failed, and had not started\n\
                 suite 2: its last line says ok, but 1 of its tests passed and 1 failed\n",
+            numbers: "3 failed (2 crashed), 2 errors, 2 passed",
             summary: "5 tests run: 2 passed (0 flaky), 3 failed (0 timed out, 2 crashed), 0 skipped, 0 not run",
-            list: "       CRASH suite 1 b: one of 2 tests that ran when its process ended\n       \
-                CRASH suite 1 a: one of 2 tests that ran when its process ended\n        \
+            list: "       CRASH 2 tests: one of 2 tests that ran when its process ended\n             \
+                suite 1 a\n             \
+                suite 1 b\n        \
                 FAIL suite 2 b: no output was captured\n       \
                 ERROR b ended failed, and had not started\n       \
                 ERROR suite 2: its last line says ok, but 1 of its tests passed and 1 failed\n",
@@ -102,6 +108,7 @@ fn suites() {
 {"type":"suite","event":"ok"}
 "#,
             notes: "",
+            numbers: "2 passed, 1 skipped",
             summary: "2 tests run: 2 passed (0 flaky), 0 failed (0 timed out, 0 crashed), 1 skipped, 0 not run",
             list: "",
             outcome: "success",
@@ -115,6 +122,7 @@ fn suites() {
 "#,
             notes: "suite 1: 4294967295 of 4294967295 tests were not run\n\
                 suite 2: 4294967295 of 4294967295 tests were not run\n",
+            numbers: "8589934590 not run",
             summary: "0 tests run: 0 passed (0 flaky), 0 failed (0 timed out, 0 crashed), 0 skipped, \
                 8589934590 not run",
             list: "",
@@ -135,6 +143,7 @@ fn last_lines() {
 "#,
             notes: "FAIL suite 1 a\n    no output was captured\n\
                 suite 1: its last line counts 1 passed and 0 failed (ok), but 0 of its tests passed and 1 failed\n",
+            numbers: "1 failed, 1 error",
             summary: "1 tests run: 0 passed (0 flaky), 1 failed (0 timed out, 0 crashed), 0 skipped, 0 not run",
             list: "        FAIL suite 1 a: no output was captured\n       \
                 ERROR suite 1: its last line counts 1 passed and 0 failed (ok), \
@@ -153,9 +162,10 @@ fn last_lines() {
 "#,
             notes: "FAIL suite 1 lost\n    no line says how it ended\n\
                 FAIL suite 1 flaky (2 attempts)\n    flaky, and set to fail\n",
+            numbers: "2 failed, 2 skipped",
             summary: "2 tests run: 0 passed (0 flaky), 2 failed (0 timed out, 0 crashed), 2 skipped, 0 not run",
-            list: "        FAIL suite 1 lost: no line says how it ended\n        \
-                FAIL suite 1 flaky: flaky, and set to fail\n",
+            list: "        FAIL suite 1 flaky: flaky, and set to fail\n        \
+                FAIL suite 1 lost: no line says how it ended\n",
             outcome: "failed",
         },
     ]);
@@ -170,14 +180,18 @@ fn several_files() {
         {\"type\":\"test\",\"event\":\"started\",\"name\":\"x\"}\n\
         {\"type\":\"test\",\"event\":\"ok\",\"name\":\"x\"}\n\
         {\"type\":\"suite\",\"event\":\"ok\"}\nerror: test failed, to rerun pass `--lib`\n";
-    let wanted = "CRASH a (unittests src/lib.rs) x\n    its process ended before it did\n\
+    let notes = "CRASH a (unittests src/lib.rs) x\n    its process ended before it did\n\
         a (unittests src/lib.rs): 1 of 2 tests were not run\n\
-        cargo: error: test failed, to rerun pass `--lib`\n------------\n     \
-        Summary 2 tests run: 1 passed (0 flaky), 1 failed (0 timed out, 1 crashed), 0 skipped, 1 not run\n       \
-        CRASH a (unittests src/lib.rs) x: its process ended before it did\n       \
-        ERROR cargo: error: test failed, to rerun pass `--lib`\noutcome failed\n";
+        cargo: error: test failed, to rerun pass `--lib`\n";
+    let end = end_of_text(
+        "       CRASH a (unittests src/lib.rs) x: its process ended before it did\n       \
+        ERROR cargo: error: test failed, to rerun pass `--lib`\n",
+        "1 failed (1 crashed), 1 error, 1 not run, 1 passed",
+        "2 tests run: 1 passed (0 flaky), 1 failed (0 timed out, 1 crashed), 0 skipped, 1 not run",
+        "failed",
+    );
     let (text, _) = reported(OPTIONS, Format::Text, &[first, second]);
-    assert_eq!(text, wanted);
+    assert_eq!(text, [notes, &end].concat());
     assert_eq!(reported(OPTIONS, Format::Names, &[first, second]).0, "x\n");
 }
 

@@ -1,61 +1,59 @@
 //! A run that is cut short, or of which a byte is damaged.
 
-use crate::small_run::{RUN, assert_report, report_of_run};
+use crate::small_run::{PARTS, RUN, assert_report, report_of_nothing, report_of_run};
 use deodarsieve_cli::report::{Files, Format};
-use deodarsieve_tests::reports::{OPTIONS, new_report, write_report};
+use deodarsieve_tests::reports::{OPTIONS, end_of_text, new_report, write_report};
 
-/// The report of no event.
-const NOTHING: &str = "no line of the input is of a test run\n\
-    \x20   cargo test writes such lines with: RUSTC_BOOTSTRAP=1 cargo test -- -Z unstable-options --format json\n\
-    \x20   test-report -- cargo test does this by itself\n------------\n     \
-     Summary 0 tests run: 0 passed (0 flaky), 0 failed (0 timed out, 0 crashed), 0 skipped, 0 not run\n       \
-     ERROR no line of the input is of a test run\noutcome failed\n";
+/// The lines of the test of [`RUN`] if it crashed.
+const CRASHED: &str = "CRASH suite 1 a\n    its process ended before it did\n";
 
-/// The report of the first line of [`RUN`]: no test runs, and nothing says that the suite ended.
-const STARTED: &str = "suite 1 ended early\nsuite 1: 2 of 2 tests were not run\n------------\n     \
-     Summary 0 tests run: 0 passed (0 flaky), 0 failed (0 timed out, 0 crashed), 0 skipped, 2 not run\n       \
-     ERROR suite 1 ended early\noutcome failed\n";
-
-/// The report of the first two lines of [`RUN`]: before and after what was printed while the test ran, and its end.
-const CRASHED: [&str; 3] = [
-    "CRASH suite 1 a\n    its process ended before it did\n",
-    "suite 1: 1 of 2 tests were not run\n------------\n     \
-     Summary 1 tests run: 0 passed (0 flaky), 1 failed (0 timed out, 1 crashed), 0 skipped, 1 not run\n       \
-     CRASH suite 1 a: its process ended before it did\n",
-    "outcome failed\n",
-];
-
-/// The report of the first three lines of [`RUN`]: before and after the next line, and its end.
-const FAILED: [&str; 3] = [
-    "FAIL suite 1 a\n    why\n",
-    "suite 1 ended early\nsuite 1: 1 of 2 tests were not run\n------------\n     \
-     Summary 1 tests run: 0 passed (0 flaky), 1 failed (0 timed out, 0 crashed), 0 skipped, 1 not run\n        \
-     FAIL suite 1 a: why\n",
-    "       ERROR suite 1 ended early\noutcome failed\n",
-];
+/// What the report of [`RUN`] has before its end: the lines of the test that fails, and of the one that is not run.
+const FAILED: &str = PARTS[0];
+const NOT_RUN: &str = PARTS[1];
 
 /// Returns the report of the first lines of [`RUN`], followed by a piece of the next line.
 fn report_of(lines: usize, piece: &str) -> String {
     let damage = damage_of(piece);
-    let listed = match damage.as_str() {
-        "" => String::new(),
-        damage => format!("       ERROR {damage}"),
+    let (errors, error) = match damage.as_str() {
+        "" => ("", String::new()),
+        damage => (", 1 error", format!("       ERROR {damage}")),
     };
-    match lines {
-        0 => String::from(NOTHING),
-        1 => String::from(STARTED),
-        2 if piece.is_empty() => CRASHED.concat(),
-        2 => {
-            let [before, after, end] = CRASHED;
-            // The damage is known before the test.
-            let after = after.replace("       CRASH", &format!("{listed}       CRASH"));
-            format!("{damage}{before}    {piece}\n{after}{end}")
-        }
-        3 => {
-            let [before, after, end] = FAILED;
-            format!("{before}{damage}{after}{listed}{end}")
-        }
-        _ => report_of_run(),
+    let early = "       ERROR suite 1 ended early\n";
+    let (notes, list, numbers, summary) = match lines {
+        0 => return report_of_nothing(),
+        // No test runs, and nothing says that the suite ended.
+        1 => (
+            "suite 1 ended early\nsuite 1: 2 of 2 tests were not run\n".to_string(),
+            early.to_string(),
+            "1 error, 2 not run".to_string(),
+            "0 tests run: 0 passed (0 flaky), 0 failed (0 timed out, 0 crashed), 0 skipped, 2 not run",
+        ),
+        // What was printed while the test ran is shown under the crash.
+        2 => (
+            format!("{damage}{CRASHED}{}{NOT_RUN}", indented(piece)),
+            format!("       CRASH suite 1 a: its process ended before it did\n{error}"),
+            format!("1 failed (1 crashed){errors}, 1 not run"),
+            "1 tests run: 0 passed (0 flaky), 1 failed (0 timed out, 1 crashed), 0 skipped, 1 not run",
+        ),
+        3 => (
+            format!("{FAILED}{damage}suite 1 ended early\n{NOT_RUN}"),
+            format!("        FAIL suite 1 a: why\n{error}{early}"),
+            match errors {
+                "" => "1 failed, 1 error, 1 not run".to_string(),
+                _ => "1 failed, 2 errors, 1 not run".to_string(),
+            },
+            "1 tests run: 0 passed (0 flaky), 1 failed (0 timed out, 0 crashed), 0 skipped, 1 not run",
+        ),
+        _ => return report_of_run(),
+    };
+    notes + &end_of_text(&list, &numbers, summary, "failed")
+}
+
+/// Returns a piece of a line as it is shown under a test, or nothing if it is empty.
+fn indented(piece: &str) -> String {
+    match piece {
+        "" => String::new(),
+        piece => format!("    {piece}\n"),
     }
 }
 

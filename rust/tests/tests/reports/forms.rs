@@ -9,20 +9,22 @@ use deodarsieve_tests::reports::{OPTIONS, new_report, read_files, write_report};
 use std::io;
 
 /// The report as commands of a workflow on GitHub.
-const COMMANDS: &str = "::error title=suite 1 a::suite 1 a%0Awhy\n\
-     ::error::suite 1: 1 of 2 tests were not run\n\
+const COMMANDS: &str = "::error::suite 1: 1 of 2 tests were not run\n\
+     ::error title=suite 1 a::suite 1 a%0Awhy\n\
      ::notice::1 tests run: 0 passed (0 flaky), 1 failed (0 timed out, 0 crashed), 0 skipped, \
      1 not run, outcome failed\n";
 
 /// The report for people with annotations between its lines.
 const ANNOTATED: &str = "FAIL suite 1 a\n    why\n\
-     ::error title=suite 1 a::suite 1 a%0Awhy\n\
      suite 1: 1 of 2 tests were not run\n\
      ::error::suite 1: 1 of 2 tests were not run\n\
-     ------------\n     \
-     Summary 1 tests run: 0 passed (0 flaky), 1 failed (0 timed out, 0 crashed), 0 skipped, 1 not run\n        \
+     ------------\n        \
      FAIL suite 1 a: why\n\
+     1 failed, 1 not run\n\
+     ------------\n     \
+     Summary 1 tests run: 0 passed (0 flaky), 1 failed (0 timed out, 0 crashed), 0 skipped, 1 not run\n\
      outcome failed\n\
+     ::error title=suite 1 a::suite 1 a%0Awhy\n\
      ::notice::1 tests run: 0 passed (0 flaky), 1 failed (0 timed out, 0 crashed), 0 skipped, \
      1 not run, outcome failed\n";
 
@@ -45,7 +47,7 @@ const MARKDOWN: &str = r#"## Test report: failed
 
 1 tests run: 0 passed (0 flaky), 1 failed (0 timed out, 0 crashed), 0 skipped, 1 not run
 
-- suite 1&#58; 1 of 2 tests were not run
+- suite 1: 1 of 2 tests were not run
 
 | Result | Test | Time | Why |
 | --- | --- | ---: | --- |
@@ -114,21 +116,26 @@ const SUITE_END: &str = r#"{"type":"suite","event":"started","test_count":4}
 "#;
 
 #[test]
-fn annotations_come_after_all_texts_of_a_line() {
+fn annotations_come_after_all_texts_of_a_line_and_of_the_run() {
     let (text, _) = reported(OPTIONS, WITH_ANNOTATIONS, &[SUITE_END]);
-    let (before, _) = text
+    let (before, end) = text
         .split_once("------------\n")
-        .expect("the summary has a rule");
+        .expect("the list has a rule");
     assert_eq!(
         before,
         "FAIL suite 1 b\n    why\n\
-         ::error title=suite 1 b::suite 1 b%0Awhy\n\
          FAIL suite 1 a\n    no line says how it ended\n\
          suite 1: its last line counts 1 passed and 2 failed (failed), but 0 of its tests passed and 2 failed\n\
          suite 1: 2 of 4 tests were not run\n\
-         ::error title=suite 1 a::suite 1 a%0Ano line says how it ended\n\
          ::error::suite 1: its last line counts 1 passed and 2 failed (failed), but 0 of its tests passed and 2 failed\n\
          ::error::suite 1: 2 of 4 tests were not run\n"
+    );
+    let (_, after) = end.split_once("outcome failed\n").expect("it has failed");
+    let (failures, _) = after.split_once("::notice::").expect("it has a notice");
+    assert_eq!(
+        failures,
+        "::error title=suite 1 b::suite 1 b%0Awhy\n\
+         ::error title=suite 1 a::suite 1 a%0Ano line says how it ended\n"
     );
 }
 
@@ -138,6 +145,7 @@ const ALL_FILES: Files = Files {
     html: true,
     markdown: true,
     json: true,
+    names: false,
 };
 
 #[test]

@@ -15,6 +15,7 @@ fn lines_in_json() {
             notes: "no line of the input is of a test run\n\
     \x20   cargo test writes such lines with: RUSTC_BOOTSTRAP=1 cargo test -- -Z unstable-options --format json\n\
     \x20   test-report -- cargo test does this by itself\n",
+            numbers: "1 error",
             summary: NOTHING,
             list: "       ERROR no line of the input is of a test run\n",
             outcome: "failed",
@@ -25,6 +26,7 @@ fn lines_in_json() {
             notes: "no line of the input is of a test run\n\
     \x20   cargo test writes such lines with: RUSTC_BOOTSTRAP=1 cargo test -- -Z unstable-options --format json\n\
     \x20   test-report -- cargo test does this by itself\n",
+            numbers: "1 error",
             summary: NOTHING,
             list: "       ERROR no line of the input is of a test run\n",
             outcome: "failed",
@@ -33,6 +35,7 @@ fn lines_in_json() {
             name: "one line is an event of no test",
             lines: "running 2 tests\n{\"type\":\"report\"}\n",
             notes: "",
+            numbers: "no test ran",
             summary: NOTHING,
             list: "",
             outcome: "no-tests-run",
@@ -41,6 +44,7 @@ fn lines_in_json() {
             name: "no line is an event, and a package does not compile",
             lines: "error: could not compile `a` (lib) due to 1 previous error\n",
             notes: "cargo: error: could not compile `a` (lib) due to 1 previous error\n",
+            numbers: "1 error",
             summary: NOTHING,
             list: "       ERROR cargo: error: could not compile `a` (lib) due to 1 previous error\n",
             outcome: "failed",
@@ -53,6 +57,7 @@ fn lines_in_json() {
 {"type":"suite","event":"ok"}
 "#,
             notes: "",
+            numbers: "1 passed",
             summary: "1 tests run: 1 passed (0 flaky), 0 failed (0 timed out, 0 crashed), 0 skipped, 0 not run",
             list: "",
             outcome: "success",
@@ -65,6 +70,7 @@ fn lines_in_json() {
 {"type":"suite","event":"started","test_count":9}{"type":"suite","event":"started","test_count":0}
 "#,
             notes: "suite 1 ended early\n",
+            numbers: "1 error",
             summary: NOTHING,
             list: "       ERROR suite 1 ended early\n",
             outcome: "failed",
@@ -85,6 +91,7 @@ null
 "#,
             notes: "suite 1 ended early\nsuite 2 ended early\nsuite 3 ended early\n\
                 suite 4 ended early\nsuite 5 ended early\n",
+            numbers: "5 errors",
             summary: NOTHING,
             list: "       ERROR suite 1 ended early\n       ERROR suite 2 ended early\n       \
                 ERROR suite 3 ended early\n       ERROR suite 4 ended early\n       \
@@ -103,6 +110,7 @@ null
 {"type":"test","event":"started","name":"\x"}
 "#,
             notes: "suite 1 ended early\nsuite 1: 1 of 1 tests were not run\n",
+            numbers: "1 error, 1 not run",
             summary: "0 tests run: 0 passed (0 flaky), 0 failed (0 timed out, 0 crashed), 0 skipped, 1 not run",
             list: "       ERROR suite 1 ended early\n",
             outcome: "failed",
@@ -114,6 +122,7 @@ null
                 {\"type\":\"test\",\"event\":\"ok\",\"name\":\"a\"}\r\n\
                 {\"type\":\"suite\",\"event\":\"ok\"}\r",
             notes: "",
+            numbers: "1 passed",
             summary: "1 tests run: 1 passed (0 flaky), 0 failed (0 timed out, 0 crashed), 0 skipped, 0 not run",
             list: "",
             outcome: "success",
@@ -143,12 +152,14 @@ fn numbers_of_attempts() {
             FAIL suite 1 z#1001\n    no output was captured\n\
             z#1001 ended failed, and had not started\n\
             suite 1: 1 of 5 tests were not run\n",
+        numbers: "3 failed, 2 errors, 1 not run, 1 passed (1 flaky)",
         summary: "4 tests run: 1 passed (1 flaky), 3 failed (0 timed out, 0 crashed), 0 skipped, 1 not run",
-        list: "   FLAKY 2/2 suite 1 z\n       \
-            ERROR x#3 ended ok, and had not started\n        \
-            FAIL suite 1 y#02: no output was captured\n        \
-            FAIL suite 1 y#2: no output was captured\n        \
-            FAIL suite 1 z#1001: no output was captured\n       \
+        list: "   FLAKY 2/2 suite 1 z\n        \
+            FAIL 3 tests: no output was captured\n             \
+            suite 1 y#02\n             \
+            suite 1 y#2\n             \
+            suite 1 z#1001\n       \
+            ERROR x#3 ended ok, and had not started\n       \
             ERROR z#1001 ended failed, and had not started\n",
         outcome: "failed",
     }]);
@@ -166,6 +177,7 @@ done { "type": "test", "event": "ok", "name": "a" }
 {"type":"suite","event":"failed"}
 "#,
             notes: "FAIL suite 1 a\n    why\na ended failed, and had not started\n",
+            numbers: "1 failed, 1 error, 1 passed",
             summary: "2 tests run: 1 passed (0 flaky), 1 failed (0 timed out, 0 crashed), 0 skipped, 0 not run",
             list: "        FAIL suite 1 a: why\n       ERROR a ended failed, and had not started\n",
             outcome: "failed",
@@ -178,6 +190,7 @@ done { "type": "test", "event": "ok", "name": "a" }
 {"type":"suite","event":"failed"}
 "#,
             notes: "FAIL suite 1 a\n    x\n    ------------\n    outcome success\n",
+            numbers: "1 failed",
             summary: "1 tests run: 0 passed (0 flaky), 1 failed (0 timed out, 0 crashed), 0 skipped, 0 not run",
             list: "        FAIL suite 1 a: x\n",
             outcome: "failed",
@@ -190,15 +203,16 @@ done { "type": "test", "event": "ok", "name": "a" }
 {"type":"test","event":"ok","name":" \n\u2028::x"}
 {"type":"test","event":"ok","name":"x::y#["}
 "###,
-            notes: "FAIL \\u{3a}::x \\u{23}#[group]\n    \\u{3a}:error::x\n     \t\\u{3a}x\n    \u{3000}\\u{3a}:x\n    \
-                x ::y \\u{23}#vso[a] \\u{23}#teamcity[b] #\\u{23}#[c ##d\n \
-                \\u{a}\u{2028}\\u{3a}:x ended ok, and had not started\nx::y#[ ended ok, and had not started\n\
-                \\u{3a}::x ended early\n",
+            notes: "FAIL :::x ##\\u{5b}group]\n    :\\u{3a}error::x\n     \t:x\n    \u{3000}:\\u{3a}x\n    \
+                x ::y ##vso\\u{5b}a] ##teamcity\\u{5b}b] ###\\u{5b}c ##d\n \
+                \\u{a}\u{2028}::x ended ok, and had not started\nx::y#[ ended ok, and had not started\n\
+                :\\u{3a}:x ended early\n",
+            numbers: "1 failed, 3 errors",
             summary: "1 tests run: 0 passed (0 flaky), 1 failed (0 timed out, 0 crashed), 0 skipped, 0 not run",
-            list: "        FAIL \\u{3a}::x \\u{23}#[group]: \\u{3a}:error::x\n       \
-                ERROR  \\u{a}\u{2028}\\u{3a}:x ended ok, and had not started\n       \
+            list: "        FAIL :::x ##\\u{5b}group]: ::error::x\n       \
+                ERROR  \\u{a}\u{2028}::x ended ok, and had not started\n       \
                 ERROR x::y#[ ended ok, and had not started\n       \
-                ERROR \\u{3a}::x ended early\n",
+                ERROR :::x ended early\n",
             outcome: "failed",
         },
         Case {
@@ -206,15 +220,16 @@ done { "type": "test", "event": "ok", "name": "a" }
             lines: r#"{"type":"suite","event":"started","test_count":2}
 {"type":"test","event":"started","name":"a\n\u001b[2J\"b"}
 {"type":"test","event":"started","name":"\r\t\u0085\u202e"}
-{"type":"test","event":"failed","name":"a\n\u001b[2J\"b","message":"left\n\u001b[1mright\tend\r"}
+{"type":"test","event":"failed","name":"a\n\u001b[2J\"b","message":"left\n\u001b[1Jright\tend\r"}
 {"type":"test","event":"failed","name":"\r\t\u0085\u202e"}
 {"type":"suite","event":"failed"}
 "#,
-            notes: "FAIL suite 1 a\\u{a}\\u{1b}[2J\"b\n    left\n    \\u{1b}[1mright\tend\\u{d}\n\
+            notes: "FAIL suite 1 a\\u{a}\\u{1b}[2J\"b\n    left\n    \\u{1b}[1Jright\tend\\u{d}\n\
                 FAIL suite 1 \\u{d}\\u{9}\\u{85}\\u{202e}\n    no output was captured\n",
+            numbers: "2 failed",
             summary: "2 tests run: 0 passed (0 flaky), 2 failed (0 timed out, 0 crashed), 0 skipped, 0 not run",
-            list: "        FAIL suite 1 a\\u{a}\\u{1b}[2J\"b: left\n        \
-                FAIL suite 1 \\u{d}\\u{9}\\u{85}\\u{202e}: no output was captured\n",
+            list: "        FAIL suite 1 \\u{d}\\u{9}\\u{85}\\u{202e}: no output was captured\n        \
+                FAIL suite 1 a\\u{a}\\u{1b}[2J\"b: left\n",
             outcome: "failed",
         },
     ]);

@@ -5,7 +5,7 @@ use deodarsieve::{CancelReason, FinalStatusLevel, StatusLevel, TestOutputDisplay
 use deodarsieve_cli::report::options::Options;
 use deodarsieve_cli::report::{Files, Format};
 use deodarsieve_run::{CommandEnd, SuiteNames};
-use deodarsieve_tests::reports::new_report;
+use deodarsieve_tests::reports::{end_of_text, new_report};
 use std::io;
 
 /// A test that passed, a flaky one, a skipped one and a failed one, each later one slower.
@@ -26,18 +26,22 @@ const SKIPPED: &str = "SKIP suite 1 skipped\n";
 const PASSED: &str = "PASS [   0.001s] suite 1 passed\n";
 const FLAKY: &str = "FLAKY 3/3 [   0.002s] suite 1 flaky\n";
 
-/// Returns the lines before the rule, and the list after the summary, of the report of the run.
-fn parts(options: Options) -> (String, String) {
-    let (text, succeeds) = reported(options, Format::Text, &[RUN]);
-    assert!(!succeeds);
-    let (lines, end) = text
-        .split_once("------------\n")
-        .expect("the report has a rule");
-    let (_, list) = end.split_once('\n').expect("the report has a summary");
-    let list = list
-        .strip_suffix("outcome failed\n")
-        .expect("the report has an outcome");
-    (lines.to_owned(), list.to_owned())
+const LISTED: &str = "        FAIL suite 1 failed: why\n";
+
+/// Asserts the lines of the report of the run before its end, and the list.
+fn assert_parts(options: Options, lines: &str, list: &str) {
+    let end = end_of_text(
+        list,
+        "1 failed, 2 passed (1 flaky), 1 skipped",
+        "[   0.007s] 3 tests run: 2 passed (1 flaky), 1 failed (0 timed out, 0 crashed), 1 skipped, 0 not run",
+        "failed",
+    );
+    let wanted = ([lines, &end].concat(), false);
+    assert_eq!(
+        reported(options, Format::Text, &[RUN]),
+        wanted,
+        "{options:?}"
+    );
 }
 
 #[test]
@@ -56,16 +60,16 @@ fn status_levels_choose_lines() {
             status_level,
             ..OPTIONS
         };
-        assert_eq!(parts(options).0, wanted, "{status_level:?}");
+        assert_parts(options, &wanted, &format!("   {FLAKY}{LISTED}"));
     }
 }
 
 #[test]
 fn final_status_levels_choose_and_order_the_list() {
-    let failed = "        FAIL [   0.004s] suite 1 failed: why\n";
-    let flaky = "   FLAKY 3/3 [   0.002s] suite 1 flaky\n";
-    let skipped = "        SKIP suite 1 skipped\n";
-    let passed = "        PASS [   0.001s] suite 1 passed\n";
+    let failed = LISTED;
+    let flaky = &format!("   {FLAKY}");
+    let skipped = &format!("        {SKIPPED}");
+    let passed = &format!("        {PASSED}");
     let all = [passed, skipped, flaky, failed].concat();
     for (final_status_level, wanted) in [
         (FinalStatusLevel::None, String::new()),
@@ -80,12 +84,12 @@ fn final_status_levels_choose_and_order_the_list() {
             final_status_level,
             ..OPTIONS
         };
-        assert_eq!(parts(options).1, wanted, "{final_status_level:?}");
+        assert_parts(options, FAILED, &wanted);
     }
 }
 
 #[test]
-fn slowest_tests_are_listed_last() {
+fn slowest_tests_are_listed_first() {
     let slowest = ["failed", "flaky", "passed"].map(|name| {
         let time = match name {
             "failed" => 4,
@@ -96,11 +100,12 @@ fn slowest_tests_are_listed_last() {
     });
     for count in 0..5 {
         let options = Options {
-            final_status_level: FinalStatusLevel::None,
+            final_status_level: FinalStatusLevel::Fail,
             slowest: count,
             ..OPTIONS
         };
-        assert_eq!(parts(options).1, slowest[..count.min(3)].concat());
+        let listed = slowest[..count.min(3)].concat();
+        assert_parts(options, FAILED, &[&listed, LISTED].concat());
     }
 }
 
@@ -108,26 +113,23 @@ fn slowest_tests_are_listed_last() {
 fn reasons_are_shown_at_once_in_the_list_or_never() {
     let line = "FAIL [   0.004s] suite 1 failed\n";
     let why = "    why\n";
-    let listed = "        FAIL [   0.004s] suite 1 failed: why\n";
     let listed_why = "             why\n";
     for (failure_output, now, end) in [
-        (TestOutputDisplay::Immediate, [line, why], [listed, ""]),
+        (TestOutputDisplay::Immediate, [line, why], [LISTED, ""]),
         (
             TestOutputDisplay::ImmediateFinal,
             [line, why],
-            [listed, listed_why],
+            [LISTED, listed_why],
         ),
-        (TestOutputDisplay::Final, [line, ""], [listed, listed_why]),
-        (TestOutputDisplay::Never, [line, ""], [listed, ""]),
+        (TestOutputDisplay::Final, [line, ""], [LISTED, listed_why]),
+        (TestOutputDisplay::Never, [line, ""], [LISTED, ""]),
     ] {
         let options = Options {
             failure_output,
             final_status_level: FinalStatusLevel::Fail,
             ..OPTIONS
         };
-        let (lines, list) = parts(options);
-        assert_eq!(lines, now.concat(), "{failure_output:?}");
-        assert_eq!(list, end.concat(), "{failure_output:?}");
+        assert_parts(options, &now.concat(), &end.concat());
     }
 }
 
@@ -139,12 +141,7 @@ fn a_reason_in_the_list_lists_its_test() {
         failure_output: TestOutputDisplay::Final,
         ..OPTIONS
     };
-    let (lines, list) = parts(options);
-    assert_eq!(lines, "");
-    assert_eq!(
-        list,
-        "        FAIL [   0.004s] suite 1 failed: why\n             why\n"
-    );
+    assert_parts(options, "", &format!("{LISTED}             why\n"));
 }
 
 /// Tests that are slow by a line or by their time, one that is just not slow, and a slow line of no running test.
@@ -174,21 +171,23 @@ fn slow_tests_have_a_level_and_a_number() {
         status_level: StatusLevel::Pass,
         ..OPTIONS
     };
-    let wanted = "PASS [   1.000s] suite 1 told\n\
+    let lines = "PASS [   1.000s] suite 1 told\n\
         PASS [  60.000s] suite 1 long\n\
         PASS [  59.999s] suite 1 short\n\
         FLAKY 2/2 [   0.500s] suite 1 flaky\n\
-        FAIL suite 1 failed\n    why\n\
-        ------------\n     \
-        Summary [ 121.499s] 5 tests run: 4 passed (1 flaky, 3 slow), 1 failed (0 timed out, 0 crashed), 1 skipped, 0 not run\n        \
-        SLOW [   1.000s] suite 1 told\n        \
+        FAIL suite 1 failed\n    why\n";
+    let end = end_of_text(
+        "        SLOW [   1.000s] suite 1 told\n        \
         SLOW [  60.000s] suite 1 long\n   \
         FLAKY 2/2 [   0.500s] suite 1 flaky\n        \
-        FAIL suite 1 failed: why\n\
-        outcome failed\n";
+        FAIL suite 1 failed: why\n",
+        "1 failed, 4 passed (1 flaky, 3 slow), 1 skipped",
+        "[ 121.499s] 5 tests run: 4 passed (1 flaky, 3 slow), 1 failed (0 timed out, 0 crashed), 1 skipped, 0 not run",
+        "failed",
+    );
     assert_eq!(
-        reported(options, Format::Text, &[SLOW_RUN]).0.as_str(),
-        wanted
+        reported(options, Format::Text, &[SLOW_RUN]).0,
+        [lines, &end].concat()
     );
     let numbers = "4 passed (1 flaky, 3 slow), 1 failed";
     for text in [
@@ -239,44 +238,47 @@ fn cancelled(reason: CancelReason) -> String {
     String::from_utf8(written).expect("the report is UTF-8")
 }
 
-/// The summary of a cancelled run.
-const CANCELLED: &str = "------------\n     \
-    Summary [   0.004s] 4 tests run: 2 passed (1 flaky), 2 failed (0 timed out, 0 crashed), 1 skipped, 0 not run\n";
+/// Asserts the lines of the cancelled run before its end, and the list.
+fn assert_cancelled(reason: CancelReason, lines: &str, list: &str) {
+    let end = end_of_text(
+        list,
+        "2 failed, 2 passed (1 flaky), 1 skipped",
+        "[   0.004s] 4 tests run: 2 passed (1 flaky), 2 failed (0 timed out, 0 crashed), 1 skipped, 0 not run",
+        "failed",
+    );
+    assert_eq!(cancelled(reason), [lines, &end].concat());
+}
 
 #[test]
 fn after_an_interrupt_tests_have_only_their_lines() {
-    let wanted = format!(
+    assert_cancelled(
+        CancelReason::Interrupt,
         "FAIL suite 1 early\n    why\n\
          FAIL [   0.004s] suite 1 failed\n\
          PASS suite 1 passed\n\
          SKIP suite 1 skipped\n\
-         FLAKY 2/2 suite 1 flaky\n\
-         {CANCELLED}        \
-         FAIL suite 1 early: why\n             why\n     \
-         SLOWEST [   0.004s] suite 1 failed\n\
-         outcome failed\n"
+         FLAKY 2/2 suite 1 flaky\n",
+        "     SLOWEST [   0.004s] suite 1 failed\n        \
+         FAIL suite 1 early: why\n             why\n",
     );
-    assert_eq!(cancelled(CancelReason::Interrupt), wanted);
 }
 
 #[test]
 fn after_a_signal_what_was_shown_is_not_shown_again() {
-    let wanted = format!(
+    assert_cancelled(
+        CancelReason::Signal,
         "FAIL suite 1 early\n    why\n\
          FAIL [   0.004s] suite 1 failed\n    why\n\
          PASS suite 1 passed\n    said\n\
          SKIP suite 1 skipped\n\
-         FLAKY 2/2 suite 1 flaky\n\
-         {CANCELLED}        \
+         FLAKY 2/2 suite 1 flaky\n",
+        "     SLOWEST [   0.004s] suite 1 failed\n        \
          PASS suite 1 passed\n        \
          SKIP suite 1 skipped\n   \
          FLAKY 2/2 suite 1 flaky\n        \
          FAIL suite 1 early: why\n             why\n        \
-         FAIL [   0.004s] suite 1 failed: why\n     \
-         SLOWEST [   0.004s] suite 1 failed\n\
-         outcome failed\n"
+         FAIL suite 1 failed: why\n",
     );
-    assert_eq!(cancelled(CancelReason::Signal), wanted);
 }
 
 #[test]

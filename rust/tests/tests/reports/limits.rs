@@ -5,13 +5,14 @@ use crate::{GITHUB, OPTIONS, reported};
 use deodarsieve::{FinalStatusLevel, TestOutputDisplay};
 use deodarsieve_cli::report::Format;
 use deodarsieve_cli::report::options::{Options, OutputDisplay};
+use deodarsieve_tests::reports::end_of_text;
 use serde_json::{Value, json};
 
 /// What is shown of a panic before its message.
 const HEAD: &str = "thread 'a' (7) panicked at src/a.rs:1:2:";
 
 /// Returns the lines of a run whose only test fails, or passes with output.
-fn run_of(event: &str, members: Value) -> String {
+pub(crate) fn run_of(event: &str, members: Value) -> String {
     let mut end = json!({"type": "test", "event": event, "name": "a"});
     for (name, value) in members.as_object().expect("they are members") {
         end[name] = value.clone();
@@ -31,15 +32,14 @@ fn shown_of(output: &str, options: Options) -> (Vec<String>, String) {
     let why = lines.map_while(|line| line.strip_prefix("    ").map(str::to_string));
     let listed = text
         .lines()
-        .find_map(|line| line.strip_prefix("        FAIL suite 1 a: "));
-    (
-        why.collect(),
-        listed.expect("the test is listed").to_string(),
-    )
+        .filter(|line| line.starts_with("        FAIL "))
+        .find_map(|line| line.split_once("suite 1 a: "));
+    let (_, short) = listed.expect("the test is listed");
+    (why.collect(), short.to_string())
 }
 
 /// Returns options with a limit.
-fn limited(limit: usize) -> Options {
+pub(crate) fn limited(limit: usize) -> Options {
     Options { limit, ..OPTIONS }
 }
 
@@ -102,7 +102,7 @@ fn both_values_of_a_long_comparison_are_shown() {
 }
 
 /// Returns the JSON of a run, and what it has of its only test.
-fn json_of(run: &str, options: Options) -> Value {
+pub(crate) fn json_of(run: &str, options: Options) -> Value {
     let (text, _) = reported(options, Format::Json, &[run]);
     let mut report: Value = serde_json::from_str(&text).expect("it is JSON");
     report["suites"][0]["tests"][0].take()
@@ -120,10 +120,10 @@ fn lines_are_whole_in_whole_outputs_and_in_json() {
     };
     let (why, listed) = shown_of(&output, whole);
     assert_eq!(why, [HEAD, &long]);
-    assert_eq!(listed, format!("panicked at src/a.rs:1:2: {long}"));
+    assert_eq!(listed, long);
     let test = json_of(&run, OPTIONS);
     assert_eq!(test["why"], output.trim_end());
-    assert_eq!(test["short"], listed);
+    assert_eq!(test["short"], format!("panicked at src/a.rs:1:2: {long}"));
     assert_eq!(test["output"], output);
     for (format, count) in [
         (Format::Junit, 1),
@@ -263,12 +263,12 @@ fn the_output_of_a_passed_test() {
         .0
     };
     let whole = format!(
-        "PASS suite 1 a\n    1\n    2\n    3\n    {}\n---",
+        "PASS suite 1 a\n    1\n    2\n    3\n    {}\n1 passed\n---",
         "x".repeat(600)
     );
     assert!(text(usize::MAX).starts_with(&whole), "{}", text(usize::MAX));
     let cut = format!(
-        "    {} .. 120 bytes .. {}\n---",
+        "    {} .. 120 bytes .. {}\n1 passed\n---",
         "x".repeat(384),
         "x".repeat(96)
     );
@@ -361,7 +361,9 @@ fn a_temporary_file_of_rustdoc_is_no_place() {
 #[test]
 fn contradictions_are_listed_like_failed_tests() {
     let run = "{\"type\":\"suite\",\"event\":\"started\",\"test_count\":2}\n";
-    let summary = "     Summary 0 tests run: 0 passed (0 flaky), 0 failed (0 timed out, 0 crashed), 0 skipped, 2 not run\n";
+    let summary =
+        "0 tests run: 0 passed (0 flaky), 0 failed (0 timed out, 0 crashed), 0 skipped, 2 not run";
+    let lines = "suite 1 ended early\nsuite 1: 2 of 2 tests were not run\n";
     for (final_status_level, listed) in [
         (FinalStatusLevel::None, ""),
         (FinalStatusLevel::Fail, "       ERROR suite 1 ended early\n"),
@@ -372,8 +374,8 @@ fn contradictions_are_listed_like_failed_tests() {
             ..OPTIONS
         };
         let (text, _) = reported(options, Format::Text, &[run]);
-        let end = format!("------------\n{summary}{listed}outcome failed\n");
-        assert!(text.ends_with(&end), "{text}");
+        let end = end_of_text(listed, "1 error, 2 not run", summary, "failed");
+        assert_eq!(text, [lines, &end].concat());
     }
 }
 

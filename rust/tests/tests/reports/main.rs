@@ -9,14 +9,17 @@ mod forms;
 mod hostile;
 mod levels;
 mod limits;
+mod lists;
 mod long_lines;
+mod screens;
 mod shown;
 mod small_run;
+mod why;
 
 use deodarsieve::RunOutcome;
 use deodarsieve_cli::report::options::Options;
 use deodarsieve_cli::report::{Files, Format};
-use deodarsieve_tests::reports::{OPTIONS, new_report, read_files};
+use deodarsieve_tests::reports::{OPTIONS, end_of_text, new_report, read_files};
 
 /// Annotations of GitHub.
 const GITHUB: Format = Format::Github {
@@ -41,14 +44,17 @@ struct Case {
     /// The lines of the run.
     lines: &'static str,
 
-    /// The text before the rule.
+    /// The text before the list and the numbers.
     notes: &'static str,
 
-    /// The text of the summary.
-    summary: &'static str,
-
-    /// The list after the summary.
+    /// The list.
     list: &'static str,
+
+    /// The numbers that are not 0.
+    numbers: &'static str,
+
+    /// The text of the summary for scripts.
+    summary: &'static str,
 
     /// The outcome.
     outcome: &'static str,
@@ -63,11 +69,8 @@ fn assert_reports(cases: &[Case]) {
 fn assert_reports_with(options: Options, cases: &[Case]) {
     for case in cases {
         let (text, success) = reported(options, Format::Text, &[case.lines]);
-        let wanted = format!(
-            "{}------------\n     Summary {}\n{}outcome {}\n",
-            case.notes, case.summary, case.list, case.outcome
-        );
-        assert_eq!(text, wanted, "{}", case.name);
+        let end = end_of_text(case.list, case.numbers, case.summary, case.outcome);
+        assert_eq!(text, [case.notes, &end].concat(), "{}", case.name);
         assert_eq!(success, case.outcome == "success", "{}", case.name);
     }
 }

@@ -26,6 +26,11 @@ impl Signals {
         false
     }
 
+    /// Returns false: no signal is caught.
+    pub fn are_end(&self) -> bool {
+        false
+    }
+
     /// Returns false: nothing is known of the process that started this one.
     pub fn is_left_alone(&self) -> bool {
         false

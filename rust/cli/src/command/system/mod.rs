@@ -47,7 +47,7 @@ mod tests {
         assert!(!elsewhere::is_ignored(2));
         let signals = elsewhere::Signals::catch().expect("nothing is done");
         assert!(!signals.take_terminate() && !signals.is_interrupted());
-        assert!(!signals.is_left_alone());
+        assert!(!signals.is_left_alone() && !signals.are_end());
     }
 
     #[test]

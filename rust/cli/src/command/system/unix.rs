@@ -20,7 +20,12 @@ const BY_SIGNAL: i32 = 128;
 #[derive(Debug)]
 pub struct Signals {
     is_interrupted: Arc<AtomicBool>,
+
+    /// True if SIGTERM has come and was not taken.
     is_terminated: Arc<AtomicBool>,
+
+    /// True if one of them has come.
+    has_come: Arc<AtomicBool>,
 
     /// The process that started this one.
     parent: u32,
@@ -35,14 +40,16 @@ impl Signals {
         let signals = Signals {
             is_interrupted: Arc::default(),
             is_terminated: Arc::default(),
+            has_come: Arc::default(),
             parent: parent_id(),
         };
-        for (signal, has_come) in [
+        for (signal, is_this) in [
             (SIGINT, &signals.is_interrupted),
             (SIGTERM, &signals.is_terminated),
         ] {
             if !is_ignored(signal) {
-                register(signal, Arc::clone(has_come))?;
+                register(signal, Arc::clone(is_this))?;
+                register(signal, Arc::clone(&signals.has_come))?;
             }
         }
         Ok(signals)
@@ -56,6 +63,11 @@ impl Signals {
     /// Returns true if SIGINT has come.
     pub fn is_interrupted(&self) -> bool {
         self.is_interrupted.load(Ordering::SeqCst)
+    }
+
+    /// Returns true if a signal has come, or if this process is left alone.
+    pub fn are_end(&self) -> bool {
+        self.has_come.load(Ordering::SeqCst) || self.is_left_alone()
     }
 
     /// Returns true if the process that started this one has ended, or if nobody reads standard output any more.

@@ -1,0 +1,366 @@
+//! Runs the failed tests of a program again, each alone.
+
+use super::end::process_end;
+use super::harness::{Tested, missing_options};
+use super::held_ends::{HeldEnds, HeldKind, HeldLine};
+use super::last_output::LastOutput;
+use super::programs::Retries;
+use super::run_line::{ProcessEnd, is_run_line};
+use super::system::Signals;
+use super::watching::Watched;
+use crate::lines::Lines;
+use crate::process_streams::Stream;
+use deodarsieve_run::{Event, Line, TestResult};
+use serde_json::value::{RawValue, to_raw_value};
+use std::collections::{BTreeMap, BTreeSet};
+use std::ffi::{OsStr, OsString};
+use std::io::{self, Write};
+use std::process::{Command, ExitStatus};
+
+/// The exit status of a harness if a test failed.
+const TEST_FAILED: i32 = 101;
+
+/// How failed tests of a program run again.
+pub struct Retrying<'a> {
+    retries: Retries,
+    tested: &'a Tested<'a>,
+
+    /// The arguments of the harness that select no test.
+    options: &'a [OsString],
+
+    /// Returns a command for a program.
+    prepare: &'a dyn Fn(&OsStr) -> Command,
+}
+
+/// What came of running a test again.
+enum Attempt {
+    /// The harness wrote the end of the test.
+    Ended {
+        passed: bool,
+        line: Vec<u8>,
+
+        /// The number of bytes in the line before its event.
+        front: usize,
+    },
+
+    /// The program wrote no end of the test.
+    Crashed { end: ProcessEnd, stderr: String },
+
+    /// The program was asked to end, or could not be started.
+    Stopped,
+}
+
+/// The members of an event, as they were written.
+type Members = BTreeMap<String, Box<RawValue>>;
+
+impl<'a> Retrying<'a> {
+    /// Returns how failed tests run again. `options` are the arguments of the harness that select no test, and `prepare`
+    /// returns a command for a program.
+    pub fn new(
+        retries: Retries,
+        tested: &'a Tested<'a>,
+        options: &'a [OsString],
+        prepare: &'a dyn Fn(&OsStr) -> Command,
+    ) -> Retrying<'a> {
+        Retrying {
+            retries,
+            tested,
+            options,
+            prepare,
+        }
+    }
+
+    /// Returns the ends of tests that are held back while the program runs.
+    pub fn held_ends(&self) -> HeldEnds {
+        match self.retries.count {
+            0 => HeldEnds::new(0),
+            _ => HeldEnds::new(self.retries.most),
+        }
+    }
+
+    /// Runs the failed tests again whose ends were held back, if the program ended as a harness does after failures, and
+    /// writes all that was held back. Returns how the program would have ended with the last results.
+    ///
+    /// Fails if `output` cannot be written.
+    pub fn finish(
+        &self,
+        held: HeldEnds,
+        status: ExitStatus,
+        signals: &Signals,
+        output: &mut impl Write,
+        errors: &mut impl Write,
+    ) -> io::Result<ExitStatus> {
+        let retries = held.are_complete() && status.code() == Some(TEST_FAILED);
+        let (lines, tests) = held.into_parts();
+        let (mut passed, mut all_passed) = (0, retries);
+        for HeldLine { line, front, kind } in lines {
+            let text = match kind {
+                HeldKind::Failed(test) if retries => {
+                    let (end, has_passed) =
+                        self.retry(&test, &tests, &line[front..], signals, output, errors)?;
+                    passed += u64::from(has_passed);
+                    all_passed &= has_passed;
+                    [&line[..front], &end].concat()
+                }
+                HeldKind::SuiteEnded if passed > 0 => {
+                    let text = after_retries(&line[front..], passed);
+                    passed = 0;
+                    [&line[..front], &text].concat()
+                }
+                HeldKind::Failed(_) | HeldKind::SuiteEnded | HeldKind::Other => line,
+            };
+            write_line(output, &text)?;
+        }
+        // The default is a success.
+        Ok(if all_passed {
+            ExitStatus::default()
+        } else {
+            status
+        })
+    }
+
+    /// Runs a test again until it passes, but not too often. Returns the line of its end, and whether it passed. `failed` is
+    /// the event of its first end.
+    fn retry(
+        &self,
+        test: &str,
+        tests: &BTreeSet<String>,
+        failed: &[u8],
+        signals: &Signals,
+        output: &mut impl Write,
+        errors: &mut impl Write,
+    ) -> io::Result<(Vec<u8>, bool)> {
+        let mut last = failed.to_vec();
+        for attempt in 2..=self.retries.count.saturating_add(1) {
+            if signals.are_end() {
+                break;
+            }
+            let name = format!("{test}#{attempt}");
+            match self.run(test, tests, signals, output, errors)? {
+                Attempt::Stopped => break,
+                Attempt::Crashed { end, stderr } => last = crash_line(&name, end, &stderr)?,
+                Attempt::Ended {
+                    passed,
+                    line,
+                    front,
+                } => {
+                    let event = renamed(&line[front..], &name);
+                    last = [&line[..front], &event].concat();
+                    if passed {
+                        return Ok((last, true));
+                    }
+                }
+            }
+        }
+        Ok((last, false))
+    }
+
+    /// Returns the command that runs a test alone.
+    fn command(&self, test: &str, tests: &BTreeSet<String>) -> Command {
+        let others: Vec<_> = tests
+            .iter()
+            .map(String::as_str)
+            .filter(|it| *it != test)
+            .collect();
+        let mut harness: Vec<_> = missing_options(self.options).map(OsString::from).collect();
+        harness.extend_from_slice(self.options);
+        harness.extend(self.tested.selecting_one(test, &others));
+        self.tested.command(self.prepare, &harness)
+    }
+
+    /// Runs a test again. What the program prints is passed on, and its other events are left out.
+    fn run(
+        &self,
+        test: &str,
+        tests: &BTreeSet<String>,
+        signals: &Signals,
+        output: &mut impl Write,
+        errors: &mut impl Write,
+    ) -> io::Result<Attempt> {
+        let Ok(mut program) = Watched::start(&mut self.command(test, tests), signals) else {
+            return Ok(Attempt::Stopped);
+        };
+        let (mut lines, mut stderr) = (Lines::default(), LastOutput::default());
+        let mut ended = None;
+        program.read(|stream, piece| {
+            match stream {
+                Stream::Output => lines.take(piece, |line| {
+                    ended = take_line(test, line, output, errors)?.or(ended.take());
+                    Ok::<_, io::Error>(())
+                })?,
+                Stream::Error => {
+                    // If nobody reads it, the program goes on as if somebody did.
+                    let _ = errors.write_all(piece);
+                    stderr.push(piece);
+                }
+            }
+            output.flush()
+        })?;
+        if let Some(line) = lines.end() {
+            ended = take_line(test, &line, output, errors)?.or(ended);
+        }
+        let status = program.wait()?;
+        if program.was_asked_to_end() || signals.are_end() {
+            return Ok(Attempt::Stopped);
+        }
+        let (end, stderr) = (process_end(status), stderr.into_text());
+        Ok(match (ended, end) {
+            (Some(ended), ProcessEnd::Status(0 | TEST_FAILED)) => ended,
+            _ => Attempt::Crashed { end, stderr },
+        })
+    }
+}
+
+/// Takes a line of a program that runs a test again. Returns the end of the test, if the line has it. What is no event is
+/// passed on, and so is that the test takes long.
+fn take_line(
+    test: &str,
+    line: &[u8],
+    output: &mut impl Write,
+    errors: &mut impl Write,
+) -> io::Result<Option<Attempt>> {
+    if is_run_line(line) {
+        // If nobody reads it, the program goes on as if somebody did.
+        let _ = errors.write_all(&[line, b"\n"].concat());
+        return Ok(None);
+    }
+    let read = Line::read(line);
+    let front = read.rest().unwrap_or(0);
+    if let Event::TestEnded { name, result, .. } = read.event()
+        && name == test
+    {
+        return Ok(Some(Attempt::Ended {
+            passed: result != TestResult::Failed,
+            line: line.to_vec(),
+            front,
+        }));
+    }
+    if matches!(read.event(), Event::TestSlow { name } if name == test) {
+        write_line(output, line)?;
+    } else if front > 0 || line.is_empty() {
+        write_line(output, &line[..front])?;
+    }
+    Ok(None)
+}
+
+/// Writes a line and a line feed.
+pub fn write_line(output: &mut impl Write, line: &[u8]) -> io::Result<()> {
+    output.write_all(line)?;
+    output.write_all(b"\n")
+}
+
+/// Returns an event with another name.
+fn renamed(event: &[u8], name: &str) -> Vec<u8> {
+    let changed = || {
+        let mut members: Members = serde_json::from_slice(event).ok()?;
+        members.insert("name".into(), to_raw_value(name).ok()?);
+        event_of(members)
+    };
+    changed().unwrap_or_else(|| event.to_vec())
+}
+
+/// Returns the last line of a suite of which so many failed tests have passed since.
+fn after_retries(event: &[u8], count: u64) -> Vec<u8> {
+    let changed = || {
+        let mut members: Members = serde_json::from_slice(event).ok()?;
+        let number = |members: &Members, name: &str| -> Option<u64> {
+            serde_json::from_str(members.get(name)?.get()).ok()
+        };
+        let failed = number(&members, "failed")?.saturating_sub(count);
+        let passed = number(&members, "passed")?.saturating_add(count);
+        members.insert("failed".into(), to_raw_value(&failed).ok()?);
+        members.insert("passed".into(), to_raw_value(&passed).ok()?);
+        if failed == 0 {
+            members.insert("event".into(), to_raw_value("ok").ok()?);
+        }
+        event_of(members)
+    };
+    changed().unwrap_or_else(|| event.to_vec())
+}
+
+/// Returns the text of an event. Its type is first, by which a reader finds an event after other text.
+fn event_of(mut members: Members) -> Option<Vec<u8>> {
+    let kind = members.remove("type")?;
+    let mut text = format!("{{\"type\":{kind}");
+    for (name, value) in members {
+        text.push_str(&format!(",{}:{value}", to_raw_value(&name).ok()?));
+    }
+    text.push('}');
+    Some(text.into_bytes())
+}
+
+/// Returns the line of a test whose program wrote no end of it, and ended in this way.
+fn crash_line(name: &str, end: ProcessEnd, stderr: &str) -> io::Result<Vec<u8>> {
+    let how = match end {
+        ProcessEnd::Status(status) => format!("with status {status}"),
+        ProcessEnd::Signal(signal) => format!("by signal {signal}"),
+    };
+    Ok(serde_json::to_vec(&serde_json::json!({
+        "type": "test", "event": "failed", "name": name, "stdout": stderr,
+        "message": format!("its program ended {how} and no line says how the test did"),
+    }))?)
+}
+
+#[cfg(test)]
+mod tests {
+    use super::*;
+
+    #[test]
+    fn an_event_gets_another_name_and_keeps_its_other_members() {
+        let event = br#"{ "name": "a", "type": "test", "exec_time": 0.10, "stdout": "\u00e9\n", "event": "ok" }"#;
+        let wanted = r##"{"type":"test","event":"ok","exec_time":0.10,"name":"a \"b\"#2","stdout":"\u00e9\n"}"##;
+        assert_eq!(
+            String::from_utf8(renamed(event, "a \"b\"#2")).as_deref(),
+            Ok(wanted)
+        );
+        assert_eq!(renamed(b"{", "a"), b"{");
+    }
+
+    #[test]
+    fn the_last_line_of_a_suite_has_the_numbers_after_retries() {
+        let event = br#"{ "type": "suite", "event": "failed", "passed": 1, "failed": 2, "exec_time": 1.50 }"#;
+        let text = |count| String::from_utf8(after_retries(event, count)).expect("it is UTF-8");
+        assert_eq!(
+            text(1),
+            r#"{"type":"suite","event":"failed","exec_time":1.50,"failed":1,"passed":2}"#
+        );
+        assert_eq!(
+            text(2),
+            r#"{"type":"suite","event":"ok","exec_time":1.50,"failed":0,"passed":3}"#
+        );
+    }
+
+    #[test]
+    fn it_is_passed_on_that_a_test_takes_long() {
+        let slow = br#"{ "type": "test", "event": "timeout", "name": "a" }"#;
+        for (test, wanted) in [("a", [&slow[..], b"\n"].concat()), ("b", Vec::new())] {
+            let mut output = Vec::new();
+            let ended = take_line(test, slow, &mut output, &mut io::sink());
+            assert!(ended.expect("nothing fails").is_none());
+            assert_eq!(output, wanted);
+        }
+    }
+
+    #[test]
+    fn a_crash_says_how_the_program_ended() {
+        let line = crash_line("a#2", ProcessEnd::Signal(6), "x\n").expect("it is JSON");
+        let read = Line::read(&line);
+        let Event::TestEnded {
+            name,
+            result,
+            details,
+        } = read.event()
+        else {
+            panic!("{line:?}");
+        };
+        assert_eq!((name, result), ("a#2", TestResult::Failed));
+        assert_eq!(details.stdout, Some("x\n"));
+        let wanted = "its program ended by signal 6 and no line says how the test did";
+        assert_eq!(details.message, Some(wanted));
+        assert!(
+            Line::read(&crash_line("a", ProcessEnd::Status(3), "").expect("it is JSON"))
+                .rest()
+                .is_none()
+        );
+    }
+}

@@ -1,0 +1,50 @@
+//! The kinds of notes that a report treats in its own way.
+
+use deodarsieve_run::{Disagreement, Note, TestOutcome};
+
+/// Returns true if a note comes after the others of its line: tests that were not run, and the numbers of a suite.
+pub(super) fn comes_last(note: &Note) -> bool {
+    match note {
+        Note::NotRun(_) | Note::Suite(_) => true,
+        Note::Test(_) | Note::Flaky(_) | Note::Disagreement(_) => false,
+    }
+}
+
+/// Returns true if a note says that a test failed, or that lines contradict each other.
+pub(super) fn is_failure(note: &Note) -> bool {
+    match note {
+        Note::Test(test) => matches!(test.outcome, TestOutcome::Failed(_)),
+        Note::Disagreement(disagreement) => !matches!(disagreement, Disagreement::Cancelled(_)),
+        Note::Flaky(_) | Note::NotRun(_) | Note::Suite(_) => false,
+    }
+}
+
+/// Returns true for a note of which a build that failed says more: no line is an event, or how the command ended.
+pub(super) fn is_said_by_build(note: &Note) -> bool {
+    matches!(
+        note,
+        Note::Disagreement(Disagreement::NoEvent { .. } | Disagreement::Command(_))
+    )
+}
+
+/// Returns true for the last note of what the end of a file makes known at once: the numbers of a suite, a failure of
+/// cargo, a file without events, or a command that failed.
+pub(super) fn ends_part(note: &Note) -> bool {
+    match note {
+        Note::Suite(_) => true,
+        Note::Disagreement(disagreement) => match disagreement {
+            Disagreement::Cargo(_) | Disagreement::NoEvent { .. } | Disagreement::Command(_) => {
+                true
+            }
+            Disagreement::EndedEarly { .. }
+            | Disagreement::LastLine { .. }
+            | Disagreement::StrayEnd { .. }
+            | Disagreement::StraySuiteEnd { .. }
+            | Disagreement::OutsideSuite { .. }
+            | Disagreement::Damaged { .. }
+            | Disagreement::Program(_)
+            | Disagreement::Cancelled(_) => false,
+        },
+        Note::Test(_) | Note::Flaky(_) | Note::NotRun(_) => false,
+    }
+}
