@@ -303,10 +303,14 @@ fn nothing_is_run_after_a_signal_in_a_build() {
         }
         let (report, _) = read_until(running.stdout, "outcome failed\n");
         // How it ended is no contradiction, but nothing has come that is of a test run.
-        assert!(
-            report.starts_with("no line of the input is of a test run\n---"),
-            "{report}"
-        );
+        let reason = if signal == "INT" {
+            "Interrupt"
+        } else {
+            "Signal"
+        };
+        let lines =
+            format!("no line of the input is of a test run\nthe run was cancelled ({reason})\n---");
+        assert!(report.starts_with(&lines), "{report}");
         assert!(!report.contains("adds"), "{report}");
         let status = running.child.wait().expect("the program ends");
         assert_eq!(status.code(), Some(1), "{signal}");

@@ -23,12 +23,14 @@ const LATER: &str = r#"{ "type": "test", "name": "pays", "event": "failed", "std
 "#;
 
 /// Returns the report of the run if a signal comes after the first failed test. After Ctrl-C the second failed test has
-/// only its line. After SIGTERM it is shown as without a signal. That the suite has no last line is no contradiction.
+/// only its line. After SIGTERM it is shown as without a signal. That the suite has no last line is no contradiction: the
+/// run was cancelled.
 fn report_after(signal: &str) -> String {
-    let (why, listed) = match signal {
-        "INT" => ("", ""),
+    let (why, reason, listed) = match signal {
+        "INT" => ("", "Interrupt", ""),
         _ => (
             "    Error: no money\n",
+            "Signal",
             "        FAIL suite 1 pays: Error: no money\n",
         ),
     };
@@ -38,7 +40,9 @@ fn report_after(signal: &str) -> String {
         "2 tests run: 0 passed (0 flaky), 2 failed (0 timed out, 0 crashed), 0 skipped, 0 not run",
         "failed",
     );
-    format!("FAIL suite 1 adds\n    Error: no such currency\nFAIL suite 1 pays\n{why}{end}")
+    let cancelled = format!("the run was cancelled ({reason})\n");
+    let first = "FAIL suite 1 adds\n    Error: no such currency\n";
+    [first, "FAIL suite 1 pays\n", why, &cancelled, &end].concat()
 }
 
 /// The end of the line that says what the program waits for.

@@ -253,7 +253,7 @@ fn a_cancelled_run_lists_the_tests_that_were_stopped_and_says_so_once() {
 
 #[test]
 fn a_run_that_was_cancelled_is_what_it_is_without_that_if_something_failed_or_all_passed() {
-    // Something failed.
+    // Something failed before. The text says both.
     let failed = PASSING
         .replace("\"ok\",\"name\"", "\"failed\",\"name\"")
         .replace(
@@ -273,9 +273,36 @@ fn a_run_that_was_cancelled_is_what_it_is_without_that_if_something_failed_or_al
 FAIL bank pays
     no output was captured
 ledger: 3 of 3 tests were not run
+the run was cancelled (Interrupt)
 ";
     let list = "        FAIL bank pays: no output was captured\n     STOPPED ledger adds\n     STOPPED ledger parses\n";
     assert_text(&parts, lines, [list, "1 failed, 3 not run", "failed"]);
+    // Documents do not count it as one more error.
+    for form in ["github", "junit", "html", "markdown", "json"] {
+        let report = report(form, &parts);
+        assert!(!report.contains("the run was cancelled"), "{report}");
+    }
+    // It failed, and nothing was left to cancel.
+    let parts = [
+        STARTED,
+        &failed,
+        CANCELLED,
+        &ended("\"status\":101", ""),
+        FAILED,
+    ];
+    let lines = "FAIL bank pays\n    no output was captured\n";
+    let list = "        FAIL bank pays: no output was captured\n";
+    assert_text(&parts, lines, [list, "1 failed", "failed"]);
+    // It failed, and the command ended before its next program started.
+    let parts = [
+        STARTED,
+        &failed,
+        CANCELLED,
+        &ended("\"status\":101", ""),
+        r#"{"type":"command","event":"ended","signal":2}"#,
+    ];
+    let lines = [lines, "the run was cancelled (Interrupt)\n"].concat();
+    assert_text(&parts, &lines, [list, "1 failed", "failed"]);
     // All passed, and the command ended with status 0.
     let parts = [
         STARTED,

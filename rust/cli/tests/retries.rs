@@ -392,6 +392,10 @@ fn after_ctrl_c_it_is_known_why_tests_failed_that_were_to_run_again() {
         "{text}"
     );
     assert!(text.contains("STOPPED money::hangs hangs"), "{text}");
+    let cancelled =
+        "money::hangs: 1 of 2 tests were not run\nthe run was cancelled (Interrupt)\n---";
+    assert!(text.contains(cancelled), "{text}");
+    assert!(text.contains("\n1 failed, 1 not run in "), "{text}");
     assert_cancelled_after_failures(&events(&folder));
 }
 

@@ -154,6 +154,9 @@ pub struct Report {
     /// True if a test failed or lines contradict each other, as far as was shown.
     has_failure: bool,
 
+    /// True if a suite, a program or the command did not end as it would have, because the run was cancelled.
+    is_cut_short: bool,
+
     /// True if the run is the output of a command that writes no lines of programs.
     is_command: bool,
 }
@@ -193,6 +196,7 @@ impl Report {
             names_hung_tests: false,
             results: None,
             has_failure: false,
+            is_cut_short: false,
             is_command: false,
         }
     }

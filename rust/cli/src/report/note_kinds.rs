@@ -14,9 +14,14 @@ pub(super) fn comes_last(note: &Note) -> bool {
 pub(super) fn is_failure(note: &Note) -> bool {
     match note {
         Note::Test(test) => matches!(test.outcome, TestOutcome::Failed(_)),
-        Note::Disagreement(disagreement) => !matches!(disagreement, Disagreement::Cancelled(_)),
+        Note::Disagreement(_) => !is_cancellation(note),
         Note::Flaky(_) | Note::NotRun(_) | Note::Suite(_) => false,
     }
+}
+
+/// Returns true if a note says that the run was cancelled, and that something did not end as it would have.
+pub(super) fn is_cancellation(note: &Note) -> bool {
+    matches!(note, Note::Disagreement(Disagreement::Cancelled(_)))
 }
 
 /// Returns true for a note of which a build that failed says more: no line is an event, or how the command ended.

@@ -7,7 +7,7 @@ use crate::report::entry::Entry;
 use crate::report::failure::FailureTexts;
 use crate::report::fault::Fault;
 use crate::report::forms::Format;
-use crate::report::note_kinds::{ends_part, is_failure, is_said_by_build};
+use crate::report::note_kinds::{ends_part, is_cancellation, is_failure, is_said_by_build};
 use crate::report::output::Text;
 use crate::report::problem::Problem;
 use crate::report::stopped::StoppedTests;
@@ -71,19 +71,25 @@ impl Report {
         Ok(build.is_some())
     }
 
-    /// Writes why the run was cancelled, if that is its outcome.
+    /// Writes why the run was cancelled, if that is its outcome. If something failed, too, only the text for people says so:
+    /// documents would count it as one more error.
     pub(super) fn show_cancelled(
         &mut self,
         end: &RunEnd,
         output: &mut impl Write,
     ) -> Result<(), Fault> {
-        if let RunOutcome::Cancelled { .. } = end.outcome
-            && let Some(reason) = self.programs.cancelled()
+        let Some(reason) = self.programs.cancelled() else {
+            return Ok(());
+        };
+        let entry = Entry::Problem(Problem::of_cancelled(reason));
+        if let RunOutcome::Cancelled { .. } = end.outcome {
+            self.show_entry(&entry);
+        } else if let Some(form) = &mut self.form
+            && (self.is_cut_short || end.not_run > 0)
         {
-            self.show_entry(&Entry::Problem(Problem::of_cancelled(reason)));
-            self.write_text(output)?;
+            form.on_entry(&entry, &mut self.text);
         }
-        Ok(())
+        self.write_text(output)
     }
 
     /// Returns the end of the text and of the annotations. `is_build` is true if the tests could not be built, and
@@ -152,6 +158,7 @@ impl Report {
     ) -> Result<(), Fault> {
         let (options, stopped) = (self.options, StoppedTests::of(notes));
         self.has_failure |= notes.iter().any(is_failure);
+        self.is_cut_short |= notes.iter().any(is_cancellation);
         let panics = panics.iter().map(String::as_str).chain(repeat(""));
         for (note, panics) in notes.iter().zip(panics) {
             let texts = FailureTexts::of(note, panics);

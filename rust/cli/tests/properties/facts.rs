@@ -63,6 +63,15 @@ pub struct Suite<'a> {
     pub over: Option<&'a Note>,
 }
 
+/// Returns true if a note says that tests were not run, or that something did not end because the run was cancelled.
+fn is_cut_short(note: &Note) -> bool {
+    match note {
+        Note::NotRun(_) | Note::Disagreement(Disagreement::Cancelled(_)) => true,
+        Note::Suite(suite) => suite.not_run > 0,
+        Note::Test(_) | Note::Flaky(_) | Note::Disagreement(_) => false,
+    }
+}
+
 /// Returns the lines of a file. What follows the last line feed is a line unless it is empty.
 pub fn lines_of(file: &[u8]) -> impl Iterator<Item = &[u8]> {
     let lines = file.split_inclusive(|byte| *byte == b'\n');
@@ -157,9 +166,15 @@ impl Facts {
 
     /// Returns the line that says that the run was cancelled, if that is its outcome.
     pub fn cancelled_line(&self) -> Option<String> {
-        let reason = self.cancelled?;
         let is_cancelled = matches!(self.end.outcome, RunOutcome::Cancelled { .. });
-        is_cancelled.then(|| format!("the run was cancelled ({reason:?})"))
+        self.cancelled_line_of_text().filter(|_| is_cancelled)
+    }
+
+    /// Returns the same if that is the outcome, or would be if nothing had failed.
+    pub fn cancelled_line_of_text(&self) -> Option<String> {
+        let reason = self.cancelled?;
+        let is_cut_short = self.notes.iter().any(is_cut_short);
+        is_cut_short.then(|| format!("the run was cancelled ({reason:?})"))
     }
 
     /// Returns the tests that passed, failed, were skipped or were stopped.

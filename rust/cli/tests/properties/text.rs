@@ -204,7 +204,8 @@ fn lines_before(facts: &Facts, shown: &Shown, kind: Kind) -> String {
         }
     }
     text += &kind.own(&without_report(facts, facts.notes.len()));
-    let cancelled = facts.cancelled_line().map(|line| line + "\n");
+    let cancelled = facts.cancelled_line_of_text();
+    let cancelled = cancelled.map(|line| line + "\n");
     text + &cancelled.unwrap_or_default()
 }
 
