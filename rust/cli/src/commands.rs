@@ -107,7 +107,7 @@ pub fn test_report() -> Command {
         .value_name("FILE")
         .num_args(0..)
         .value_hint(ValueHint::FilePath)
-        .help("The JSON lines of a run, in one file or several; standard input if absent or `-`");
+        .help("The JSON lines of a run, in one file or several; standard input if absent (which a line says on a terminal) or `-`");
     let command = words("command", "COMMAND")
         .num_args(1..)
         .conflicts_with("file")

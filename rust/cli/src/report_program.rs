@@ -30,6 +30,10 @@ use std::process::ExitCode;
 /// The argument after which the command follows.
 const BEFORE_COMMAND: &str = "--";
 
+/// The message before standard input is read, if it is a terminal and nobody has asked for it.
+const READING_TERMINAL: &str =
+    "test-report: reading standard input; to run tests: test-report -- cargo test";
+
 /// Returns the value of an option that has a default.
 fn value<'a>(matches: &'a ArgMatches, name: &str) -> &'a str {
     matches.get_one::<String>(name).map_or("", String::as_str)
@@ -322,8 +326,14 @@ fn input_of(matches: &ArgMatches) -> Input {
         return Input::Command(Box::new(prepared(matches, &words)));
     }
     match matches.get_many::<String>("file") {
-        Some(files) if files.len() > 0 => Input::Files(files.cloned().collect()),
-        _ => Input::Files(vec![STANDARD_INPUT.to_string()]),
+        Some(files) if files.len() > 0 => Input::Files {
+            paths: files.cloned().collect(),
+            message: None,
+        },
+        _ => Input::Files {
+            paths: vec![STANDARD_INPUT.to_string()],
+            message: io::stdin().is_terminal().then_some(READING_TERMINAL),
+        },
     }
 }
 

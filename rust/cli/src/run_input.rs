@@ -61,7 +61,12 @@ const HELD: Duration = Duration::from_secs(1);
 #[derive(Debug, PartialEq, Eq)]
 pub enum Input {
     /// These files, one after another. One is standard input.
-    Files(Vec<String>),
+    Files {
+        paths: Vec<String>,
+
+        /// A message that is written before the first one is read, if there is one.
+        message: Option<&'static str>,
+    },
 
     /// The output of this command.
     Command(Box<Prepared>),
@@ -71,7 +76,7 @@ impl Input {
     /// Returns the files that are read.
     pub fn files(&self) -> &[String] {
         match self {
-            Input::Files(files) => files,
+            Input::Files { paths, .. } => paths,
             Input::Command(_) => &[],
         }
     }
@@ -79,7 +84,7 @@ impl Input {
     /// Returns why the run cannot be saved, or `None` if it can.
     pub fn why_unsaved(&self) -> Option<&'static str> {
         match self {
-            Input::Files(_) => Some(FILES_UNSAVED),
+            Input::Files { .. } => Some(FILES_UNSAVED),
             Input::Command(prepared) if prepared.stand_in.is_none() => Some(COMMAND_UNSAVED),
             Input::Command(_) => None,
         }
@@ -89,7 +94,7 @@ impl Input {
     /// the last run.
     pub fn why_not_again(&self, only_failed: bool) -> Option<&'static str> {
         match self {
-            Input::Files(_) => Some(FILES_NOT_AGAIN),
+            Input::Files { .. } => Some(FILES_NOT_AGAIN),
             Input::Command(prepared) => match &prepared.stand_in {
                 None => Some(COMMAND_NOT_AGAIN),
                 Some(stand_in) if only_failed && !stand_in.has_names => Some(NAMELESS_NOT_AGAIN),
@@ -245,9 +250,12 @@ impl<'a, 'line, W: Write> RunReader<'a, 'line, W> {
     /// Fails if a read or a write does.
     pub fn report(mut self, input: Input) -> Result<Ended, Failure> {
         let command = match input {
-            Input::Files(files) => {
-                refuse_command(&files)?;
-                for (place, path) in files.iter().enumerate() {
+            Input::Files { paths, message } => {
+                refuse_command(&paths)?;
+                if let Some(message) = message {
+                    self.streams.line.borrow_mut().say(message);
+                }
+                for (place, path) in paths.iter().enumerate() {
                     if place > 0 {
                         self.report.end_file(&mut self.streams.output)?;
                         self.cancelled = None;

@@ -177,6 +177,34 @@ fn there_is_no_line_of_progress_in_a_pipe() {
     }
 }
 
+#[cfg(target_os = "linux")]
+#[test]
+fn it_is_said_that_a_terminal_is_read_if_nobody_has_asked_for_that() {
+    use common::{Folder, as_user, path_of};
+    use std::{fs, process::Command};
+    let folder = Folder::new("terminal");
+    folder.write(&[("run.jsonl", [FAILED, ENDED].concat().as_str())]);
+    let message = "test-report: reading standard input; to run tests: test-report -- cargo test\n";
+    for (arguments, wanted) in [
+        ("", message),
+        ("--format names", message),
+        ("-", ""),
+        ("run.jsonl", ""),
+        ("-- true", ""),
+        ("<run.jsonl", ""),
+    ] {
+        let words = format!("'{}' {arguments} 2>errors", path_of("test-report"));
+        let mut script = Command::new("script");
+        script.args(["--quiet", "--return", "--command", &words, "/dev/null"]);
+        // The end of the standard input of `script` is the end of what its terminal gives.
+        let output = as_user(&mut script, &folder.0).output();
+        let status = output.expect("the program runs").status;
+        assert_eq!(status.code(), Some(1), "{arguments}");
+        let errors = fs::read_to_string(folder.file("errors"));
+        assert_eq!(errors.expect("it is there"), wanted, "{arguments}");
+    }
+}
+
 /// Returns the lines of a suite of 41 tests. All but the last one end at once.
 fn forty_tests() -> String {
     let mut lines =
