@@ -77,6 +77,7 @@ class TestEnd:
     result: str
     reason: Optional[str] = None
     time: Optional[int] = None
+    output: str = ""
 
 
 @dataclass(frozen=True)
@@ -164,7 +165,7 @@ def test_event(said, event):
         return TestStart(name) if event == "started" else TestSlow(name)
     if event not in ("ok", "failed", "ignored"):
         return KnownLine()
-    return TestEnd(name, event, member(said, "reason", str), microseconds(said))
+    return TestEnd(name, event, member(said, "reason", str), microseconds(said), member(said, "stdout", str) or "")
 
 
 def event_of_object(said):

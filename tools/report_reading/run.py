@@ -185,6 +185,11 @@ class Run:
         """Returns the flaky tests that passed, suite by suite."""
         return [test for suite in self.suites + self.parts for test in suite.tests if test.is_flaky()]
 
+    def explained_tests(self):
+        """Returns the flaky tests whose failed attempts are explained, those too that count as failed."""
+        tests = [test for suite in self.suites + self.parts for test in suite.tests]
+        return [test for test in tests if test.is_explained()]
+
     def slowest(self, number):
         """Returns this number of finished tests with the longest times, the longest first."""
         tests = [test for suite in self.suites + self.parts for test in suite.in_state(*FINISHED)]

@@ -136,11 +136,30 @@ def list_differences(run, lines, words):
     ]
 
 
-def flaky_differences(run, lines):
-    """Returns the differences in the flaky tests of the list."""
-    flaky = sorted(without_commands(flaky_line(test)) for test in run.flaky_tests())
-    found = sorted(f"{result} {text}" for result, text, _ in entries(lines) if result == "FLAKY")
-    return differing(flaky, found, "flaky tests")
+def lines_of_flaky(tests):
+    """Returns the lines of flaky tests."""
+    return sorted(without_commands(flaky_line(test)) for test in tests)
+
+
+def without_reason(line, explained):
+    """Returns the line of a flaky test in the list, without the short reason at its end if it is one of the explained tests."""
+    return next((test for test in explained if line.startswith(f"{test}: ")), line)
+
+
+def flaky_differences(run, above, lines):
+    """Returns the differences in the flaky tests of the list, and in those above it: the tests that are explained."""
+    explained = lines_of_flaky(run.explained_tests())
+    found = [f"{result} {text}" for result, text, _ in entries(lines) if result == "FLAKY"]
+    listed = sorted(without_reason(line, explained) for line in found)
+    return [
+        *differing(explained, sorted(filter(is_flaky, above)), "explained flaky tests"),
+        *differing(lines_of_flaky(run.flaky_tests()), listed, "flaky tests"),
+    ]
+
+
+def is_flaky(line):
+    """Returns true for the line of a flaky test."""
+    return line.startswith("FLAKY ")
 
 
 def text_differences(run, report, words):
@@ -154,10 +173,12 @@ def text_differences(run, report, words):
     if rule < len(above) and not listed:
         return ["the list has no lines"]
     by_default = not any(option(words, name, "") for name in LEVELS)
-    before = differing(without_why(expected_notes(run)), without_why(above[:rule]), "lines before the list")
+    notes = without_why(above[:rule])
+    others = [line for line in notes if not is_flaky(line)]
+    before = differing(without_why(expected_notes(run)), others, "lines before the list")
     totals = run.totals(slow_from(words))
     return [
-        *(before + flaky_differences(run, listed) if by_default else []),
+        *(before + flaky_differences(run, notes, listed) if by_default else []),
         *list_differences(run, listed, words),
         *differing([numbers(totals, len(run.disagreements()))], [found_numbers], "numbers"),
         *differing([summary(totals)], [found_summary], "summary"),

@@ -13,6 +13,8 @@ NOT_RUN = "not run"
 FAILURES = (FAILED, TIMED_OUT, CRASHED)
 FINISHED = (PASSED, *FAILURES)
 TIME_LIMIT = "time limit exceeded"
+# The first line of the output of a test that says why its attempts failed.
+FIRST_ATTEMPT = "--- ATTEMPT 1 FAILED ---\n"
 # The greatest sum of times, in microseconds.
 MOST_TIME = 2**64 - 1
 # The outcomes of suites and runs, from the lowest to the highest.
@@ -29,10 +31,11 @@ class Test:
     attempts: int = 1
     time: Optional[int] = None
     was_slow: bool = False
+    output: str = ""
 
     def end(self, event):
-        """Takes the result and the time of an end line."""
-        self.time = event.time
+        """Takes the result, the time and the output of an end line."""
+        self.time, self.output = event.time, event.output
         if event.result == "failed":
             self.state = TIMED_OUT if event.reason == TIME_LIMIT else FAILED
         else:
@@ -41,6 +44,10 @@ class Test:
     def is_flaky(self):
         """Returns true if the test passed after it had failed."""
         return self.state == PASSED and self.attempts > 1
+
+    def is_explained(self):
+        """Returns true if the output says why an attempt failed before the test passed."""
+        return self.attempts > 1 and self.output.startswith(FIRST_ATTEMPT)
 
     def is_slow(self, least):
         """Returns true if a line said that the test was slow, or if its time is at least this."""

@@ -96,6 +96,7 @@ th { width: 45%; font-weight: 600; }
 thead th { color: var(--muted); font-size: 0.875rem; }
 tbody th { font-weight: 400; }
 td .bar { margin-top: 0.45rem; }
+td details { margin: 0; border-left-color: var(--rest); }
 .reason { white-space: pre-wrap; }
 .time { width: 6.5rem; padding-right: 0; text-align: right; white-space: nowrap; font-variant-numeric: tabular-nums; }
 @media (max-width: 40rem) {
@@ -155,7 +156,11 @@ td .bar { margin-top: 0.45rem; }
 <thead><tr><th scope="col">Test</th><th scope="col">Attempts</th><th scope="col" class="time">Time</th></tr></thead>
 <tbody>
 {{#test}}<tr><th scope="row">{{name}}</th><td>{{attempts}}</td><td class="time">{{#time}}{{seconds}}s{{/time}}{{^time}}–{{/time}}</td></tr>
-{{/test}}</tbody>
+{{#attempt}}<tr><td colspan="3"><details>
+<summary>attempt {{number}} failed: <span class="reason">{{short}}</span></summary>
+<pre><code>{{#piece}}{{plain}}{{#coloured}}<span class="{{class}}">{{text}}</span>{{/coloured}}{{/piece}}</code></pre>
+</details></td></tr>
+{{/attempt}}{{/test}}</tbody>
 </table>
 </section>
 {{/flaky_tests}}{{#suites}}<section>

@@ -6,6 +6,8 @@
 #![deny(unsafe_code)]
 
 #[doc(hidden)]
+pub mod attempts;
+#[doc(hidden)]
 pub mod cargo_arguments;
 #[doc(hidden)]
 pub mod cargo_message;

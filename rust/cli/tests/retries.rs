@@ -140,6 +140,7 @@ fn failed_tests_run_again_alone_until_they_pass() {
         "{text}"
     );
     assert_eq!(text.matches("(3 attempts)").count(), 2, "{text}");
+    assert_attempts_of_text(&text);
     // Each test runs again alone, with the options of the harness.
     let counts = ["always", "crashes", "passes", "second", "more", "third"]
         .map(|test| runs(&folder, test).len());
@@ -193,6 +194,31 @@ fn failed_tests_run_again_alone_until_they_pass() {
     assert_forms(&folder);
 }
 
+/// Asserts that a text says why the attempts of flaky tests failed: when the tests passed, and in the list.
+fn assert_attempts_of_text(text: &str) {
+    let (lines, list) = text.split_once("\n------------\n").expect("it has a list");
+    let of_third = lines
+        .split_once("money::some third\n")
+        .expect("it has the test")
+        .1;
+    let of_third: Vec<_> = of_third
+        .lines()
+        .take_while(|line| line.starts_with("    "))
+        .filter(|line| line.contains("attempt ") || line.contains("not yet"))
+        .collect();
+    let wanted = [
+        "attempt 1 failed:",
+        "not yet",
+        "attempt 2 failed:",
+        "not yet",
+    ];
+    assert_eq!(of_third, wanted.map(|line| format!("    {line}")), "{text}");
+    for (test, place) in [("second", "23:5"), ("third", "34:5")] {
+        let reason = format!("money::some {test}: panicked at tests/some.rs:{place}: not yet\n");
+        assert_eq!(list.matches(&reason).count(), 1, "{text}");
+    }
+}
+
 /// Asserts what the forms of the kept run say of flaky tests.
 fn assert_forms(folder: &Folder) {
     let file = folder.file("target/test-report/last.jsonl");
@@ -210,6 +236,20 @@ fn assert_forms(folder: &Folder) {
         .find(|test| test["name"] == "second")
         .expect("it has the test");
     assert_eq!(second["attempts"], 2, "{second}");
+    let attempts = second["failed_attempts"]
+        .as_array()
+        .expect("it has attempts");
+    assert_eq!(attempts.len(), 1);
+    assert_eq!(
+        attempts[0]["short"],
+        "panicked at tests/some.rs:23:5: not yet"
+    );
+    assert_eq!(attempts[0]["place"]["line"], "23");
+    let output = attempts[0]["output"].as_str().expect("it is a text");
+    assert!(
+        output.contains("panicked at tests/some.rs:23:5:\nnot yet\n"),
+        "{output}"
+    );
     assert_eq!(json["numbers"]["flaky"], 2);
     let html = form("html");
     assert!(html.contains("4 passed (2 flaky), 2 failed"), "{html}");
@@ -219,6 +259,10 @@ fn assert_forms(folder: &Folder) {
         .filter(|it| it.contains("scope=\"row\""))
         .collect();
     assert_eq!(rows.len(), 2, "{flaky}");
+    for (attempt, count) in [(1, 2), (2, 1)] {
+        let summary = format!("<summary>attempt {attempt} failed: ");
+        assert_eq!(flaky.matches(&summary).count(), count, "{flaky}");
+    }
     for test in ["second", "third"] {
         let name = format!("money::some {test}<");
         assert_eq!(
@@ -236,6 +280,8 @@ fn assert_forms(folder: &Folder) {
     ] {
         let case = between(&junit, &format!("<testcase name=\"{test}\""), "</testcase>");
         assert_eq!(case.matches("<flakyFailure ").count(), attempts, "{case}");
+        let reasons = case.matches(":\nnot yet").count();
+        assert_eq!(reasons, attempts, "{case}");
     }
     let markdown = form("markdown");
     assert!(

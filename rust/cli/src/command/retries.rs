@@ -8,9 +8,10 @@ use super::programs::Retries;
 use super::run_line::{ProcessEnd, is_run_line};
 use super::system::Signals;
 use super::watching::Watched;
+use crate::attempts::joined;
 use crate::lines::Lines;
 use crate::process_streams::Stream;
-use deodarsieve_run::{Event, Line, TestResult};
+use deodarsieve_run::{Event, Line, TestDetails, TestResult};
 use serde_json::value::{RawValue, to_raw_value};
 use std::collections::{BTreeMap, BTreeSet};
 use std::ffi::{OsStr, OsString};
@@ -119,8 +120,8 @@ impl<'a> Retrying<'a> {
         })
     }
 
-    /// Runs a test again until it passes, but not too often. Returns the line of its end, and whether it passed. `failed` is
-    /// the event of its first end.
+    /// Runs a test again until it passes, but not too often. Returns the line of its end, and whether it passed. If it did, the
+    /// line has the outputs of all attempts. `failed` is the event of its first end.
     fn retry(
         &self,
         test: &str,
@@ -130,7 +131,7 @@ impl<'a> Retrying<'a> {
         output: &mut impl Write,
         errors: &mut impl Write,
     ) -> io::Result<(Vec<u8>, bool)> {
-        let mut last = failed.to_vec();
+        let (mut last, mut outputs) = (failed.to_vec(), vec![output_of(failed)]);
         for attempt in 2..=self.retries.count.saturating_add(1) {
             if signals.are_end() {
                 break;
@@ -138,17 +139,22 @@ impl<'a> Retrying<'a> {
             let name = format!("{test}#{attempt}");
             match self.run(test, tests, signals, output, errors)? {
                 Attempt::Stopped => break,
-                Attempt::Crashed { end, stderr } => last = crash_line(&name, end, &stderr)?,
+                Attempt::Crashed { end, stderr } => {
+                    last = crash_line(&name, end, &stderr)?;
+                    outputs.push(output_of(&last));
+                }
                 Attempt::Ended {
                     passed,
                     line,
                     front,
                 } => {
-                    let event = renamed(&line[front..], &name);
-                    last = [&line[..front], &event].concat();
+                    let (before, event) = line.split_at(front);
                     if passed {
-                        return Ok((last, true));
+                        let event = flaky(event, &name, &outputs);
+                        return Ok(([before, &event].concat(), true));
                     }
+                    outputs.push(output_of(event));
+                    last = [before, &with_texts(event, &[("name", &name)])].concat();
                 }
             }
         }
@@ -249,11 +255,44 @@ pub fn write_line(output: &mut impl Write, line: &[u8]) -> io::Result<()> {
     output.write_all(b"\n")
 }
 
-/// Returns an event with another name.
-fn renamed(event: &[u8], name: &str) -> Vec<u8> {
+/// Returns the last 64 KiB of what the event of the end of a test says of a failure: its reason, its message and its output.
+fn output_of(event: &[u8]) -> String {
+    let (read, mut output) = (Line::read(event), LastOutput::default());
+    if let Some(details) = details_of(&read) {
+        for words in [details.reason, details.message].into_iter().flatten() {
+            output.push(words.trim_end_matches('\n').as_bytes());
+            output.push(b"\n");
+        }
+        output.push(details.stdout.unwrap_or("").as_bytes());
+    }
+    output.into_text()
+}
+
+/// Returns the event of a test that passed, with another name, and with the outputs of the attempts before, which failed.
+fn flaky(event: &[u8], name: &str, failed: &[String]) -> Vec<u8> {
+    let read = Line::read(event);
+    let passed = details_of(&read).and_then(|details| details.stdout);
+    with_texts(
+        event,
+        &[("name", name), ("stdout", &joined(failed, passed))],
+    )
+}
+
+/// Returns what a line says of a test that ends, if it is the line of its end.
+fn details_of<'a>(line: &'a Line) -> Option<TestDetails<'a>> {
+    let Event::TestEnded { details, .. } = line.event() else {
+        return None;
+    };
+    Some(details)
+}
+
+/// Returns an event with texts as members in place of those that it has of these names.
+fn with_texts(event: &[u8], texts: &[(&str, &str)]) -> Vec<u8> {
     let changed = || {
         let mut members: Members = serde_json::from_slice(event).ok()?;
-        members.insert("name".into(), to_raw_value(name).ok()?);
+        for (name, text) in texts {
+            members.insert((*name).into(), to_raw_value(text).ok()?);
+        }
         event_of(members)
     };
     changed().unwrap_or_else(|| event.to_vec())
@@ -310,10 +349,52 @@ mod tests {
         let event = br#"{ "name": "a", "type": "test", "exec_time": 0.10, "stdout": "\u00e9\n", "event": "ok" }"#;
         let wanted = r##"{"type":"test","event":"ok","exec_time":0.10,"name":"a \"b\"#2","stdout":"\u00e9\n"}"##;
         assert_eq!(
-            String::from_utf8(renamed(event, "a \"b\"#2")).as_deref(),
+            String::from_utf8(with_texts(event, &[("name", "a \"b\"#2")])).as_deref(),
             Ok(wanted)
         );
-        assert_eq!(renamed(b"{", "a"), b"{");
+        assert_eq!(with_texts(b"{", &[("name", "a")]), b"{");
+    }
+
+    #[test]
+    fn a_flaky_test_has_the_outputs_of_its_attempts() {
+        let failed = [
+            r#"{"type":"test","event":"failed","name":"a","reason":"time limit exceeded","stdout":"x"}"#,
+            r#"{"type":"test","event":"failed","name":"a","message":"test did not panic as expected\n","stdout":""}"#,
+            r#"{"type":"test","event":"failed","name":"a"}"#,
+        ];
+        let outputs = failed.map(|event| output_of(event.as_bytes()));
+        let wanted = [
+            "time limit exceeded\nx",
+            "test did not panic as expected\n",
+            "",
+        ];
+        assert_eq!(outputs, wanted);
+        let stdout = |passed: &str| {
+            let event = flaky(passed.as_bytes(), "a#4", &outputs);
+            let read = Line::read(&event);
+            let Event::TestEnded {
+                name: "a#4",
+                result: TestResult::Ok,
+                details,
+            } = read.event()
+            else {
+                panic!("{event:?}");
+            };
+            details.stdout.expect("it has one").to_string()
+        };
+        let passed = r#"{ "type": "test", "name": "a", "event": "ok" }"#;
+        assert_eq!(stdout(passed), joined(&outputs, None));
+        let passed = r#"{ "type": "test", "name": "a", "event": "ok", "stdout": "done" }"#;
+        assert_eq!(stdout(passed), joined(&outputs, Some("done")));
+    }
+
+    #[test]
+    fn not_all_is_kept_of_a_long_output() {
+        let long = format!("first\n{}last\n", "x\n".repeat(1 << 16));
+        let event =
+            serde_json::json!({"type": "test", "event": "failed", "name": "a", "stdout": long});
+        let kept = output_of(event.to_string().as_bytes());
+        assert!(kept.len() <= 1 << 16 && kept.ends_with("x\nlast\n"));
     }
 
     #[test]

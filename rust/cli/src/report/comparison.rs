@@ -82,7 +82,7 @@ impl Comparison {
     /// Takes an entry of the run.
     pub(crate) fn on_entry(&mut self, entry: &Entry<'_>) {
         match entry {
-            Entry::Passed(test) => self.on_result(test, TestResult::Passed),
+            Entry::Passed(passed) => self.on_result(passed.test, TestResult::Passed),
             Entry::Failed(failure) => self.on_result(failure.test, TestResult::Failed),
             Entry::Flaky(_)
             | Entry::Skipped(_)

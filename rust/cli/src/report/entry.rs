@@ -1,5 +1,6 @@
 //! Entries: what the forms take.
 
+use crate::report::attempts::PassedTest;
 use crate::report::build::FailedTarget;
 use crate::report::failure::{FailureTexts, ShownFailure};
 use crate::report::options::Options;
@@ -10,10 +11,10 @@ use deodarsieve_run::{Disagreement, Note, SuiteNote, TestNote, TestOutcome};
 /// A note of a run, or what a build that failed makes known, with what the forms show of it.
 pub(crate) enum Entry<'a> {
     /// A test passed.
-    Passed(&'a TestNote),
+    Passed(PassedTest<'a>),
 
     /// A flaky test passed. With another entry it counts as passed or as failed.
-    Flaky(&'a TestNote),
+    Flaky(PassedTest<'a>),
 
     /// A test was skipped.
     Skipped(&'a TestNote),
@@ -39,24 +40,26 @@ pub(crate) enum Entry<'a> {
 
 impl<'a> Entry<'a> {
     /// Returns the entry of a note, or `None` if no form shows it: that the run was cancelled is shown once, at its end.
-    /// `stopped` are the tests that became known as stopped at the same time, and `texts` those of the failed test of the note.
+    /// `stopped` are the tests that became known as stopped at the same time, `texts` those of the failed test of the note, and
+    /// `failed` the failed attempts of a test that passed.
     /// Of the options it uses only `limit`, `output`, `raw` and `color`.
     pub(crate) fn of(
         note: &'a Note,
         stopped: &StoppedTests<'_>,
         texts: &'a FailureTexts<'a>,
+        failed: &'a [ShownFailure<'a>],
         options: Options,
     ) -> Option<Entry<'a>> {
         let entry = match note {
             Note::Test(test) => match &test.outcome {
-                TestOutcome::Passed { .. } => Entry::Passed(test),
+                TestOutcome::Passed { .. } => Entry::Passed(PassedTest { test, failed }),
                 TestOutcome::Skipped { .. } => Entry::Skipped(test),
                 TestOutcome::Stopped => Entry::Stopped(test),
                 TestOutcome::Failed(failure) => {
                     Entry::Failed(ShownFailure::of(test, failure, texts, options))
                 }
             },
-            Note::Flaky(test) => Entry::Flaky(test),
+            Note::Flaky(test) => Entry::Flaky(PassedTest { test, failed }),
             Note::Disagreement(Disagreement::Cancelled(_)) => return None,
             Note::Disagreement(disagreement) => {
                 let problem = Problem::of_disagreement(disagreement, stopped, options.output);

@@ -107,9 +107,13 @@ impl<'a> FailureTexts<'a> {
     /// Returns the texts of the failed test of a note, or empty ones if the note has none. `panics` is what was printed of its
     /// panics if its output was not captured.
     pub(crate) fn of(note: &'a Note, panics: &'a str) -> FailureTexts<'a> {
-        let Some((_, failure)) = failed_test(note) else {
-            return FailureTexts::default();
-        };
+        failed_test(note).map_or_else(FailureTexts::default, |(_, failure)| {
+            FailureTexts::of_failure(failure, panics)
+        })
+    }
+
+    /// Returns the texts of a failure. `panics` is the same as above.
+    pub(crate) fn of_failure(failure: &'a Failure, panics: &'a str) -> FailureTexts<'a> {
         let output = output_of(failure, panics);
         FailureTexts {
             output,

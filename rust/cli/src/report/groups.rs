@@ -70,7 +70,7 @@ impl<'a> Failure<'a> {
                 is_new: comparison.is_some_and(|comparison| comparison.is_new(suite, test)),
                 failed,
             }),
-            TestKind::Passed | TestKind::Skipped(_) | TestKind::Stopped(_) => None,
+            TestKind::Passed(_) | TestKind::Skipped(_) | TestKind::Stopped(_) => None,
         }
     }
 
@@ -142,7 +142,7 @@ fn own_lines(text: &str) -> impl Iterator<Item = &str> {
 }
 
 /// Returns values with a short reason, which is cut and escaped.
-fn with_short(values: Values, short: &str) -> Values {
+pub(crate) fn with_short(values: Values, short: &str) -> Values {
     let short = text(&shortened(short, MOST_BYTES_OF_SHORT));
     values
         .mark("short_code", is_code(&short))

@@ -7,7 +7,7 @@
 //! | `name` | each `suite` and each `case` |
 //! | `class` | each `case`: the name of its suite, with `_` for each `.` |
 //! | `place` (its `file` and `line`) | each `case` that failed or is an error of the compiler, if its place is known |
-//! | `flaky` (its `attempt`s) | each `case` that passed after attempts that failed |
+//! | `flaky` (its `attempt`s, and its `explained` ones with `message` and `why`) | each `case` that passed after attempts that failed |
 //! | `skipped_because` (its `message`) | each `case` that was skipped with a reason, or stopped |
 //! | `skipped` | each other `case` that was skipped |
 //! | `failure` or `error` (`message`, `type`, `why`), `output` (its `text`) | each `case` that failed |
@@ -15,8 +15,8 @@
 use crate::report::colours::without_colours;
 use crate::report::escape::{line, name_in_document, text, whole_text};
 use crate::report::model::{
-    CaseModel, FailedModel, FailedResult, PlaceModel, ProblemModel, ReportModel, SuiteModel,
-    TestKind, TestModel,
+    AttemptModel, CaseModel, FailedModel, FailedResult, PlaceModel, ProblemModel, ReportModel,
+    SuiteModel, TestKind, TestModel,
 };
 use crate::report::output::{Document, Template};
 use crate::report::values::Values;
@@ -59,7 +59,7 @@ impl Counts {
             match case {
                 CaseModel::Problem(_) => counts.errors += 1,
                 CaseModel::Test(test) => match &test.kind {
-                    TestKind::Passed => {}
+                    TestKind::Passed(_) => {}
                     TestKind::Skipped(_) | TestKind::Stopped(_) => counts.skipped += 1,
                     TestKind::Failed(failed) if failed.result.is_error() => counts.errors += 1,
                     TestKind::Failed(_) => counts.failures += 1,
@@ -151,10 +151,9 @@ fn test_values(test: TestModel, class: &str) -> Values {
         .text("class", class)
         .time(test.time);
     match test.kind {
-        TestKind::Passed => {
-            let failed = test.attempts.saturating_sub(1).min(MOST_ATTEMPTS);
-            let attempts = std::iter::repeat_with(Values::default).take(failed);
-            values.section("flaky", "attempt", attempts)
+        TestKind::Passed(failed) => {
+            let attempts = (test.attempts > 1).then(|| attempts_values(test.attempts - 1, &failed));
+            values.some("flaky", attempts)
         }
         TestKind::Skipped(None) => values.item("skipped", Values::default()),
         TestKind::Skipped(Some(reason)) => values.item(
@@ -166,6 +165,21 @@ fn test_values(test: TestModel, class: &str) -> Values {
         }
         TestKind::Failed(failed) => with_failure(values, &failed),
     }
+}
+
+/// Returns the values of so many attempts that failed, of which some say why.
+fn attempts_values(count: usize, failed: &[AttemptModel]) -> Values {
+    let explained = failed.iter().take(MOST_ATTEMPTS).map(|attempt| {
+        Values::of("message", text(&attempt.short))
+            .text("why", text(&without_colours(&attempt.why)))
+    });
+    let others = count.min(MOST_ATTEMPTS).saturating_sub(failed.len());
+    let values = explained.fold(Values::default(), |values, attempt| {
+        values.item("explained", attempt)
+    });
+    (0..others).fold(values, |values, _| {
+        values.item("attempt", Values::default())
+    })
 }
 
 /// Returns values with the place of a failure, why the test failed, and its output.

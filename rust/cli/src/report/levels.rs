@@ -40,6 +40,21 @@ pub(crate) fn finished_output(
         Finish::Passed => options.success_output,
         Finish::FlakyFailed | Finish::Failed | Finish::TimedOut => options.failure_output,
     };
+    output_by(display, options, finish, test)
+}
+
+/// Returns what is shown of the failed attempts of a test that passed, and what is stored for the list at the end.
+pub(crate) fn attempts_output(options: Options, test: &TestNote) -> OutputOnTestFinished {
+    output_by(options.failure_output, options, Finish::Passed, test)
+}
+
+/// Returns what is shown and stored of a finished test, if its output is displayed so.
+fn output_by(
+    display: TestOutputDisplay,
+    options: Options,
+    finish: Finish,
+    test: &TestNote,
+) -> OutputOnTestFinished {
     let finished = leveled(finish, test);
     let view = finished.view();
     levels_of(options).compute_output_on_test_finished(

@@ -65,12 +65,14 @@ impl List {
         }
     }
 
-    /// Adds the line of a test that did not fail. Returns the part of the list in which its output may follow.
+    /// Adds the line of a test that did not fail, and the short reason of an attempt that did. Returns the part of the list
+    /// in which its output may follow.
     pub(crate) fn add(
         &mut self,
         status: &str,
         level: FinalStatusLevel,
         test: &TestNote,
+        reason: Option<&str>,
     ) -> &mut Text {
         let key = match level {
             FinalStatusLevel::Flaky => (Reverse(level), test.ended.unwrap_or(0), self.parts.len()),
@@ -78,7 +80,7 @@ impl List {
         };
         let options = self.options;
         let part = self.parts.entry(key).or_insert_with(|| Text::new(options));
-        push_test(status, test, options, part);
+        push_test(status, test, reason, options, part);
         part
     }
 
@@ -96,7 +98,7 @@ impl List {
 
     /// Adds a test that was stopped.
     pub(crate) fn add_stopped(&mut self, test: &TestNote) {
-        push_test("STOPPED", test, self.options, &mut self.stopped);
+        push_test("STOPPED", test, None, self.options, &mut self.stopped);
     }
 
     /// Adds the line of a contradiction.
@@ -111,7 +113,7 @@ impl List {
         let options = self.options;
         self.slowest.add(test.time, || {
             let mut line = Text::new(options);
-            push_test("SLOWEST", test, options, &mut line);
+            push_test("SLOWEST", test, None, options, &mut line);
             line
         });
     }
@@ -183,10 +185,20 @@ fn entry_text(first: &ListedFailure, others: &[ListedFailure], options: Options)
     text
 }
 
-/// Appends the line of a test: its status, its time and its name.
-fn push_test(status: &str, test: &TestNote, options: Options, text: &mut Text) {
+/// Appends the line of a test: its status, its time, its name and, if there is one, a short reason.
+fn push_test(
+    status: &str,
+    test: &TestNote,
+    reason: Option<&str>,
+    options: Options,
+    text: &mut Text,
+) {
     let mut line = begun(status);
     line.push(time_and_title(test));
+    if let Some(reason) = reason {
+        line.push(": ");
+        line.push_input(reason, options.raw);
+    }
     line.push_to(text, options.screen);
 }
 

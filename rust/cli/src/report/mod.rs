@@ -13,13 +13,14 @@
 //! | the model | `groups` (failures of one cause), `page`, `summary`, `junit`, all with `values` | a page, a summary and JUnit's XML, through the proved templates |
 //!
 //! `program_lines` has what a report needs of lines of programs, `held` the notes that wait for the end of a program, and
-//! `thread_panic` the panics that were printed. `colours` reads the colours in texts of tests. `diff` and `backtrace` make
+//! `thread_panic` the panics that were printed. `attempts` has the failed attempts of flaky tests. `colours` reads the colours in texts of tests. `diff` and `backtrace` make
 //! the values of failed assertions and the backtraces in them shorter.
 //! `output` has the only types that standard output takes. `escape` shows control characters as escapes such as
 //! `\u{1b}`, and so does the type `ReportText` with what was not escaped before.
 
 pub mod advice;
 mod annotations;
+mod attempts;
 mod backtrace;
 pub mod build;
 mod cause;

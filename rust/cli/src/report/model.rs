@@ -5,7 +5,7 @@ use crate::cargo_message::SourcePlace;
 use crate::report::cause::Cause;
 use crate::report::comparison::Comparison;
 use crate::report::escape::text;
-use crate::report::failure::WholeLines;
+use crate::report::failure::{ShownFailure, WholeLines};
 use crate::report::numbers::Numbers;
 use crate::report::place::Place;
 use crate::report::problem::{Problem, ProblemReason, ProblemSource};
@@ -93,7 +93,8 @@ pub(crate) struct TestModel {
 
 /// How a test ended.
 pub(crate) enum TestKind {
-    Passed,
+    /// The test passed after these failed attempts.
+    Passed(Vec<AttemptModel>),
 
     /// The test was skipped, for a reason if its line has one.
     Skipped(Option<String>),
@@ -127,6 +128,17 @@ pub(crate) struct FailedModel {
     /// The whole output in a page and in a summary, if the reason there does not show all of it.
     pub(crate) page_output: Option<WholeOutput>,
     pub(crate) summary_output: Option<WholeOutput>,
+}
+
+/// Why an attempt of a test failed that passed later.
+pub(crate) struct AttemptModel {
+    place: Option<PlaceModel>,
+    output: Option<String>,
+    pub(crate) short: String,
+    pub(crate) why: String,
+
+    /// The same with all lines whole, if they are not whole.
+    whole_lines: Option<WholeLines>,
 }
 
 /// How a test failed.
@@ -202,6 +214,9 @@ pub(crate) struct FlakyModel {
     pub(crate) title: String,
     pub(crate) attempts: usize,
     pub(crate) time: Option<Seconds>,
+
+    /// Why the attempts before the last one failed, if that is known.
+    pub(crate) failed: Vec<AttemptModel>,
 }
 
 impl Serialize for Seconds {
@@ -225,7 +240,7 @@ impl Serialize for TestModel {
         members.serialize_entry("name", self.name())?;
         members.serialize_entry("written_name", &self.written_name)?;
         match &self.kind {
-            TestKind::Passed => members.serialize_entry("result", "passed")?,
+            TestKind::Passed(_) => members.serialize_entry("result", "passed")?,
             TestKind::Skipped(_) => members.serialize_entry("result", "skipped")?,
             TestKind::Stopped(_) => members.serialize_entry("result", "stopped")?,
             TestKind::Failed(failed) => members.serialize_entry("result", &failed.result)?,
@@ -234,21 +249,43 @@ impl Serialize for TestModel {
         members.serialize_entry("slow", &self.slow)?;
         serialize_some(&mut members, "time", &self.time)?;
         match &self.kind {
-            TestKind::Passed | TestKind::Stopped(_) => {}
+            TestKind::Stopped(_) => {}
+            TestKind::Passed(failed) if failed.is_empty() => {}
+            TestKind::Passed(failed) => members.serialize_entry("failed_attempts", failed)?,
             TestKind::Skipped(reason) => serialize_some(&mut members, "reason", reason)?,
             TestKind::Failed(failed) => {
                 serialize_some(&mut members, "place", &failed.place)?;
-                let (short, why) = match &failed.whole_lines {
-                    Some(WholeLines { short, why }) => (short, why),
-                    None => (&failed.short, &failed.why),
-                };
-                members.serialize_entry("short", short)?;
-                members.serialize_entry("why", why)?;
+                let own = (&failed.short, &failed.why);
+                serialize_reason(&mut members, own, &failed.whole_lines)?;
                 serialize_some(&mut members, "output", &failed.output)?;
             }
         }
         members.end()
     }
+}
+
+impl Serialize for AttemptModel {
+    fn serialize<S: Serializer>(&self, serializer: S) -> Result<S::Ok, S::Error> {
+        let mut members = serializer.serialize_map(None)?;
+        serialize_some(&mut members, "place", &self.place)?;
+        serialize_reason(&mut members, (&self.short, &self.why), &self.whole_lines)?;
+        serialize_some(&mut members, "output", &self.output)?;
+        members.end()
+    }
+}
+
+/// Serializes the short reason of a failure and why a test failed, with whole lines if there are others.
+fn serialize_reason<M: SerializeMap>(
+    members: &mut M,
+    own: (&String, &String),
+    whole_lines: &Option<WholeLines>,
+) -> Result<(), M::Error> {
+    let (short, why) = match whole_lines {
+        Some(WholeLines { short, why }) => (short, why),
+        None => own,
+    };
+    members.serialize_entry("short", short)?;
+    members.serialize_entry("why", why)
 }
 
 /// Serializes a member, if it has a value.
@@ -291,6 +328,19 @@ impl ReportModel {
     /// Returns the problem of a case.
     pub(crate) fn problem(&self, place: usize) -> &ProblemModel {
         &self.problems[place + usize::from(self.is_empty)]
+    }
+}
+
+impl AttemptModel {
+    /// Returns what is kept of an attempt that failed.
+    pub(crate) fn of(failure: &ShownFailure<'_>) -> AttemptModel {
+        AttemptModel {
+            place: failure.place.map(PlaceModel::from),
+            output: failure.failure.stdout.clone(),
+            short: failure.short().into_owned(),
+            why: failure.why().text.clone(),
+            whole_lines: failure.whole_lines(),
+        }
     }
 }
 

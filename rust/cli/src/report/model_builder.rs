@@ -1,6 +1,7 @@
 //! The model of a report, while its run is read.
 
 use crate::report::Files;
+use crate::report::attempts::PassedTest;
 use crate::report::cause::Cause;
 use crate::report::colours::without_colours;
 use crate::report::comparison::Comparison;
@@ -8,8 +9,8 @@ use crate::report::entry::Entry;
 use crate::report::escape::whole_text;
 use crate::report::failure::ShownFailure;
 use crate::report::model::{
-    CaseModel, FailedModel, FailedResult, FlakyModel, PlaceModel, ProblemModel, ReportModel,
-    Seconds, SuiteModel, TestKind, TestModel,
+    AttemptModel, CaseModel, FailedModel, FailedResult, FlakyModel, PlaceModel, ProblemModel,
+    ReportModel, Seconds, SuiteModel, TestKind, TestModel,
 };
 use crate::report::numbers::Numbers;
 use crate::report::problem::Problem;
@@ -87,7 +88,7 @@ impl ModelBuilder {
     /// Keeps what is shown of an entry.
     pub(crate) fn on_entry(&mut self, entry: &Entry<'_>) {
         match entry {
-            Entry::Passed(test) => self.on_passed(test),
+            Entry::Passed(passed) => self.on_passed(passed),
             Entry::Skipped(test) => self.on_skipped(test),
             Entry::Stopped(test) => self.on_stopped(test),
             Entry::Failed(failure) => self.on_failed(failure),
@@ -98,17 +99,20 @@ impl ModelBuilder {
     }
 
     /// Keeps a test that passed.
-    fn on_passed(&mut self, test: &TestNote) {
+    fn on_passed(&mut self, passed: &PassedTest<'_>) {
+        let test = passed.test;
         self.slowest.add(test.time, || title_in_document(test));
+        let failed = || passed.failed.iter().map(AttemptModel::of).collect();
         if self.documents.html && test.attempts > 1 {
             self.flaky.push(FlakyModel {
                 title: title_in_document(test),
                 attempts: test.attempts,
                 time: test.time.map(Seconds),
+                failed: failed(),
             });
         }
         if self.documents.have_all_tests() {
-            self.add_test(test, TestKind::Passed);
+            self.add_test(test, TestKind::Passed(failed()));
         }
     }
 

@@ -1,7 +1,7 @@
 //! The page of a report.
 
 use crate::report::comparison::Comparison;
-use crate::report::groups::{Failure, Group, differ, groups};
+use crate::report::groups::{Failure, Group, differ, groups, with_short};
 use crate::report::model::{FailedModel, FlakyModel, ReportModel, SuiteModel};
 use crate::report::numbers::Numbers;
 use crate::report::output::{Document, Template};
@@ -126,7 +126,12 @@ fn suite_row(suite: &SuiteModel) -> Values {
 
 /// Returns the values of a test that passed after several attempts.
 fn flaky_values(test: &FlakyModel) -> Values {
-    Values::of("name", &test.title)
+    let values = Values::of("name", &test.title)
         .number("attempts", test.attempts)
-        .time(test.time)
+        .time(test.time);
+    let attempts = (1..).zip(test.failed.iter());
+    attempts.fold(values, |values, (number, attempt)| {
+        let item = with_short(Values::of("number", number.to_string()), &attempt.short);
+        values.item("attempt", with_pieces(item, &attempt.why))
+    })
 }

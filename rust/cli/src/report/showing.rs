@@ -2,6 +2,7 @@
 
 use crate::report::Report;
 use crate::report::annotations::{push_failed_name, push_notice};
+use crate::report::attempts::{failures_of, shown_failures};
 use crate::report::build::FailedBuild;
 use crate::report::entry::Entry;
 use crate::report::failure::FailureTexts;
@@ -162,7 +163,11 @@ impl Report {
         let panics = panics.iter().map(String::as_str).chain(repeat(""));
         for (note, panics) in notes.iter().zip(panics) {
             let texts = FailureTexts::of(note, panics);
-            if let Some(entry) = Entry::of(note, &stopped, &texts, options) {
+            let attempts = failures_of(note);
+            let of_attempt = |failure| FailureTexts::of_failure(failure, "");
+            let attempt_texts: Vec<_> = attempts.iter().map(of_attempt).collect();
+            let failed = shown_failures(note, &attempts, &attempt_texts, options);
+            if let Some(entry) = Entry::of(note, &stopped, &texts, &failed, options) {
                 self.show_entry(&entry);
             }
         }

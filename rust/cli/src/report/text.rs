@@ -1,13 +1,15 @@
 //! The text for people, with a list of tests at its end.
 
 use crate::report::advice::Advice;
+use crate::report::attempts::PassedTest;
 use crate::report::build::FailedTarget;
-use crate::report::colours::trim_end;
 use crate::report::comparison::Comparison;
 use crate::report::entry::Entry;
 use crate::report::escape::name;
 use crate::report::failure::ShownFailure;
-use crate::report::levels::{final_level, finished_output, has_line, skipped_output};
+use crate::report::levels::{
+    attempts_output, final_level, finished_output, has_line, skipped_output,
+};
 use crate::report::limit::Limit;
 use crate::report::lines::without_returns;
 use crate::report::list::{LIST_MARGIN, List};
@@ -20,7 +22,7 @@ use crate::report::words::{
     numbers_in_words, outcome_text, style_of, summary, time_and_title, title_of,
 };
 use deodarsieve::{FinalStatusLevel, OutputOnTestFinished, OutputStoreFinal, StatusLevel};
-use deodarsieve_run::{Finish, RunEnd, TestNote, TestOutcome};
+use deodarsieve_run::{Finish, RunEnd, TestNote};
 use std::time::Duration;
 
 /// The number of spaces before each line of why a test failed.
@@ -61,11 +63,8 @@ impl TextForm {
     pub(crate) fn on_entry(&mut self, entry: &Entry<'_>, text: &mut Text) {
         match entry {
             Entry::Failed(failure) => self.on_failed(failure, text),
-            Entry::Passed(test) => self.on_passed(test, text),
-            Entry::Flaky(test) => {
-                let shows = finished_output(self.options, Finish::Passed, test);
-                push_passed(test, shows, self.options, text);
-            }
+            Entry::Passed(passed) => self.on_passed(passed, text),
+            Entry::Flaky(passed) => push_passed(passed, self.options, text),
             Entry::Skipped(test) => self.on_skipped(test, text),
             Entry::Stopped(test) => self.on_stopped(test),
             Entry::Problem(problem) => self.on_problem(problem, text),
@@ -178,25 +177,32 @@ impl TextForm {
     }
 
     /// Takes a test that passed. What is shown of a flaky test was written when it passed.
-    fn on_passed(&mut self, test: &TestNote, text: &mut Text) {
-        let options = self.options;
-        let shows = finished_output(options, Finish::Passed, test);
+    fn on_passed(&mut self, passed: &PassedTest<'_>, text: &mut Text) {
+        let (test, options) = (passed.test, self.options);
         if test.attempts <= 1 {
-            push_passed(test, shows, options, text);
+            push_passed(passed, options, text);
         }
         self.list.keep_time(test);
-        let OutputStoreFinal::Yes { display_output } = shows.store_final else {
+        let own = display_at_end(finished_output(options, Finish::Passed, test));
+        let first = passed.failed.first();
+        let of_attempts = first.and_then(|_| display_at_end(attempts_output(options, test)));
+        if own.or(of_attempts).is_none() {
             return;
-        };
+        }
         let status = match test.attempts {
             0 | 1 if test.slow => "SLOW".into(),
             _ => passed_status(test),
         };
-        let part = self
-            .list
-            .add(&status, final_level(Finish::Passed, test), test);
-        if display_output {
-            push_output(test, LIST_MARGIN, options, part);
+        let (level, short) = (
+            final_level(Finish::Passed, test),
+            first.map(ShownFailure::short),
+        );
+        let part = self.list.add(&status, level, test, short.as_deref());
+        if of_attempts == Some(true) {
+            push_attempts(passed.failed, LIST_MARGIN, part);
+        }
+        if own == Some(true) {
+            push_output(passed, LIST_MARGIN, options, part);
         }
     }
 
@@ -208,7 +214,7 @@ impl TextForm {
             push_line("SKIP", test, "\n", text);
         }
         if let OutputStoreFinal::Yes { .. } = shows.store_final {
-            self.list.add("SKIP", FinalStatusLevel::Skip, test);
+            self.list.add("SKIP", FinalStatusLevel::Skip, test, None);
         }
     }
 
@@ -259,17 +265,36 @@ impl TextForm {
     }
 }
 
-/// Appends the line of a test that passed and its output, if the levels show them.
-fn push_passed(test: &TestNote, shows: OutputOnTestFinished, options: Options, text: &mut Text) {
-    let shows = OutputOnTestFinished {
-        show_immediate: shows.show_immediate && passed_output(test).is_some(),
-        ..shows
-    };
-    if has_line(shows) {
+/// Appends the line of a test that passed, why its failed attempts failed, and its output, if the levels show them.
+fn push_passed(passed: &PassedTest<'_>, options: Options, text: &mut Text) {
+    let test = passed.test;
+    let own = finished_output(options, Finish::Passed, test);
+    let shows_own = own.show_immediate && passed.output().is_some();
+    let shows_attempts = !passed.failed.is_empty() && attempts_output(options, test).show_immediate;
+    if own.write_status_line || shows_own || shows_attempts {
         push_line(&passed_status(test), test, "\n", text);
     }
-    if shows.show_immediate {
-        push_output(test, MARGIN, options, text);
+    if shows_attempts {
+        push_attempts(passed.failed, MARGIN, text);
+    }
+    if shows_own {
+        push_output(passed, MARGIN, options, text);
+    }
+}
+
+/// Returns whether the list displays the output of a test, or `None` if it does not have the test.
+fn display_at_end(shows: OutputOnTestFinished) -> Option<bool> {
+    match shows.store_final {
+        OutputStoreFinal::Yes { display_output } => Some(display_output),
+        OutputStoreFinal::No => None,
+    }
+}
+
+/// Appends why the failed attempts of a test failed, each below a line with its number.
+fn push_attempts(failed: &[ShownFailure<'_>], margin: usize, text: &mut Text) {
+    for (number, failure) in (1..).zip(failed) {
+        text.push_indented(&format!("attempt {number} failed:"), margin);
+        push_why(failure, margin, text);
     }
 }
 
@@ -287,8 +312,8 @@ fn push_why(failure: &ShownFailure<'_>, margin: usize, text: &mut Text) {
 }
 
 /// Appends the output of a test that passed, or nothing if there is none.
-fn push_output(test: &TestNote, margin: usize, options: Options, text: &mut Text) {
-    if let Some(output) = passed_output(test) {
+fn push_output(passed: &PassedTest<'_>, margin: usize, options: Options, text: &mut Text) {
+    if let Some(output) = passed.output() {
         let shown = without_returns(output);
         text.push_indented(&Limit::of_passed(options).shown(&shown), margin);
     }
@@ -299,16 +324,5 @@ fn passed_status(test: &TestNote) -> String {
     match test.attempts {
         0 | 1 => "PASS".to_string(),
         attempts => format!("FLAKY {attempts}/{attempts}"),
-    }
-}
-
-/// Returns the output of a test that passed, without the white space at its end, or `None` if nothing is left.
-fn passed_output(test: &TestNote) -> Option<&str> {
-    match &test.outcome {
-        TestOutcome::Passed { output } => {
-            let output = trim_end(output.as_deref()?);
-            (!output.is_empty()).then_some(output)
-        }
-        TestOutcome::Skipped { .. } | TestOutcome::Stopped | TestOutcome::Failed(_) => None,
     }
 }

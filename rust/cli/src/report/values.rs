@@ -18,7 +18,7 @@
 //! | `suites` | a `suite` with `name`, `words`, `bar` (as above) and `time` |
 //! | `slowest` | a `slow` test with `name`, `share` (of the longest time, in hundredths) and `seconds` |
 //! | `skips` | a `skip` with `name` and `reason`: a skipped test that has a reason |
-//! | `flaky_tests` | a `test` with `name`, `attempts` and `time`: one that passed after several attempts |
+//! | `flaky_tests` | a `test` with `name`, `attempts` and `time`: one that passed after several attempts. An `attempt` of it, with `number`, `short` and `piece`s, says why it failed |
 //! | `more` | what a summary leaves out, if it does: a `count` of failed tests, or of names in a list. The template has nothing for other problems, so their number is the `line` of a last one |
 //! | `ran`, `no_tests` | the run in a summary: its `outcome`, or that no test ran |
 //!

@@ -15,7 +15,8 @@ pub const JUNIT: &str = r#"<testsuites name="test-report" tests="{{tests}}" fail
 {{/skipped}}{{#skipped_because}}
 <skipped message="{{message}}"/>
 {{/skipped_because}}{{#flaky}}
-{{#attempt}}<flakyFailure message="attempt failed" type="flaky"/>
+{{#explained}}<flakyFailure message="{{message}}" type="flaky">{{why}}</flakyFailure>
+{{/explained}}{{#attempt}}<flakyFailure message="attempt failed" type="flaky"/>
 {{/attempt}}{{/flaky}}{{#output}}<system-out>{{text}}</system-out>
 {{/output}}</testcase>
 {{/case}}</testsuite>

@@ -81,13 +81,19 @@ fn numbers(stats: &RunStats, skipped: u128, not_run: u128) -> Vec<(u128, &'stati
 }
 
 /// Returns the rows of the tables of the page, by the headings of their sections.
-fn rows(facts: &Facts) -> Vec<(&'static str, Vec<String>)> {
+fn rows(facts: &Facts, shown: &Shown) -> Vec<(&'static str, Vec<String>)> {
     let flaky = facts
         .tests()
         .filter(|test| failure_of(test).is_none() && test.attempts > 1);
     let flaky = flaky.filter(|test| matches!(test.outcome, TestOutcome::Passed { .. }));
-    let flaky =
-        flaky.map(|test| format!("{}{}{}", shown_title(test), test.attempts, cell(test.time)));
+    let flaky = flaky.flat_map(|test| {
+        let row = format!("{}{}{}", shown_title(test), test.attempts, cell(test.time));
+        let attempts = (1..).zip(shown.attempts(test)).map(|(number, shown)| {
+            let (short, why) = (value(&shown.short), said(&shown.why));
+            format!("\nattempt {number} failed: {short}\n{why}\n")
+        });
+        [row].into_iter().chain(attempts)
+    });
     let suites = facts.suites();
     let suites = suites.iter().filter_map(suite_row);
     let timed = slowest_tests(facts);
@@ -174,7 +180,8 @@ pub fn check_page(facts: &Facts, shown: &Shown, html: &str) {
     check_problems(&all, &problems);
     let groups = groups(facts, shown);
     let outputs = check_failures(&all, &groups);
-    let (tables, rows) = check_tables(&all, facts);
+    let (tables, rows) = check_tables(&all, facts, shown);
+    let attempts: usize = facts.tests().map(|test| shown.attempts(test).len()).sum();
     let failed = groups.len();
     let several = groups.iter().filter(|group| group.0.len() > 1);
     let named: Vec<_> = several.map(|group| group.0.len()).collect();
@@ -187,11 +194,11 @@ pub fn check_page(facts: &Facts, shown: &Shown, html: &str) {
             ("style", 1),
             ("ul", lists + named.len()),
             ("li", problems.len() + named.iter().sum::<usize>()),
-            ("details", failed + outputs),
-            ("summary", failed + outputs),
+            ("details", failed + outputs + attempts),
+            ("summary", failed + outputs + attempts),
             ("h3", failed),
-            ("pre", failed + outputs + reasons),
-            ("code", failed + outputs + reasons),
+            ("pre", failed + outputs + reasons + attempts),
+            ("code", failed + outputs + reasons + attempts),
             ("section", tables + lists + usize::from(failed > 0)),
             ("table", tables),
             ("tr", tables + rows),
@@ -200,9 +207,9 @@ pub fn check_page(facts: &Facts, shown: &Shown, html: &str) {
 }
 
 /// Asserts the tables of a page, and returns how many there are, and how many rows they have below their headings.
-fn check_tables(page: &[&Element], facts: &Facts) -> (usize, usize) {
+fn check_tables(page: &[&Element], facts: &Facts, shown: &Shown) -> (usize, usize) {
     let (mut tables, mut count) = (0, 0);
-    for (heading, rows) in rows(facts) {
+    for (heading, rows) in rows(facts, shown) {
         let rows: Vec<_> = rows.iter().map(|row| allowed(row)).collect();
         let found = section(page, heading).map(|section| {
             let all = section.all();
@@ -236,6 +243,7 @@ fn check_attributes(element: &Element) {
         "aria-hidden",
         "charset",
         "class",
+        "colspan",
         "content",
         "http-equiv",
         "lang",

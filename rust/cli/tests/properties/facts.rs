@@ -188,6 +188,15 @@ impl Facts {
             .filter_map(|test| Some((test, failure_of(test)?)))
     }
 
+    /// Returns true if a flaky test whose failed attempts are known counted as failed in the end.
+    pub fn has_failed_attempts_of_failed_tests(&self) -> bool {
+        let notes = self.notes.iter();
+        let flaky = notes
+            .filter(|note| matches!(note, Note::Flaky(test) if !attempts_of(test).0.is_empty()));
+        let passed = self.tests().filter(|test| !attempts_of(test).0.is_empty());
+        flaky.count() != passed.count()
+    }
+
     /// Returns the problems, each with its line.
     pub fn problems(&self) -> impl Iterator<Item = (&Note, String)> {
         let problems = self.notes.iter();
@@ -233,6 +242,44 @@ impl Facts {
         over.append(&mut open);
         over
     }
+}
+
+/// Returns the failures of the attempts of a test that passed later, and the output of the attempt that passed. Lines with the
+/// numbers of the attempts divide its output.
+pub fn attempts_of(test: &TestNote) -> (Vec<Failure>, Option<String>) {
+    let TestOutcome::Passed {
+        output: Some(output),
+    } = &test.outcome
+    else {
+        return (Vec::new(), None);
+    };
+    let line = |number: usize, end: &str| format!("--- ATTEMPT {number} {end} ---\n");
+    if test.attempts < 2 || !output.starts_with(&line(1, "FAILED")) {
+        return (Vec::new(), Some(output.clone()));
+    }
+    let (mut failed, mut passed): (Vec<String>, Option<String>) = (Vec::new(), None);
+    for part in output.split_inclusive('\n') {
+        let next = failed.len() + 1;
+        if let Some(passed) = &mut passed {
+            passed.push_str(part);
+        } else if next < test.attempts && part == line(next, "FAILED") {
+            failed.push(String::new());
+        } else if part == line(test.attempts, "PASSED") {
+            passed = Some(String::new());
+        } else {
+            failed
+                .last_mut()
+                .expect("it is the first line")
+                .push_str(part);
+        }
+    }
+    let failed = failed.into_iter().map(|output| Failure {
+        kind: FailureKind::Failed,
+        stdout: Some(output).filter(|output| !output.is_empty()),
+        message: None,
+        reason: None,
+    });
+    (failed.collect(), passed)
 }
 
 /// Returns the test of a note that has its result.

@@ -300,10 +300,25 @@ impl Generator {
             _ => counts.ignored += 1,
         }
         self.texts(&mut end, event);
+        if event == "ok" && name != test && self.random.one_in(2) {
+            end["stdout"] = self.attempts().into();
+        }
         if end["stdout"].is_null() && self.is_wrong(2) {
             self.panics(test);
         }
         self.line(&end);
+    }
+
+    /// Returns the outputs of attempts of a test. Some of their lines may be those of other attempts.
+    fn attempts(&mut self) -> String {
+        let mut text = "--- ATTEMPT 1 FAILED ---\n".to_string();
+        for line in ["2 FAILED", "2 PASSED", "3 FAILED", "3 PASSED"] {
+            text.push_str(&self.output());
+            if self.random.one_in(2) {
+                text.push_str(&format!("\n--- ATTEMPT {line} ---\n"));
+            }
+        }
+        text
     }
 
     /// Writes panics of threads as lines that are no events: of a test, and of others.

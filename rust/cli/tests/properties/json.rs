@@ -2,13 +2,14 @@
 //! middles of long lines.
 
 use crate::facts::{
-    Facts, MARKS, Suite, crash_end, failure_of, outcome, own_name, problem_line, stopped_lines,
-    suite_of_problem, without_colours, without_returns,
+    Facts, MARKS, Suite, attempts_of, crash_end, failure_of, outcome, own_name, problem_line,
+    stopped_lines, suite_of_problem, without_colours, without_returns,
 };
 use deodarsieve::RunStats;
 use deodarsieve_cli::report::options::{Options, OutputDisplay};
 use deodarsieve_run::{Crash, Disagreement, Failure, FailureKind, Note, TestNote, TestOutcome};
 use serde_json::{Value, json};
+use std::rc::Rc;
 
 /// What the forms except JSON show of a failed test. Its texts are not escaped.
 pub struct ShownFailure {
@@ -82,16 +83,37 @@ pub struct Place {
     pub column: Option<String>,
 }
 
+/// What tells two tests of a run apart: the suite, the name, and how many tests ended before.
+type TestKey = (Option<*const String>, String, Option<usize>);
+
+/// Returns what tells a test apart.
+fn key_of(test: &TestNote) -> TestKey {
+    let suite = test.suite.as_ref().map(Rc::as_ptr);
+    (suite, test.name.clone(), test.ended)
+}
+
 /// What the forms show that is not in the notes of the run.
 pub struct Shown {
     /// The failed tests, in the order in which they became known.
     pub failures: Vec<ShownFailure>,
+
+    /// The failed attempts of the tests that passed.
+    attempts: Vec<(TestKey, Vec<ShownFailure>)>,
 
     /// What explains the problems, in their order.
     pub problems: Vec<Option<String>>,
 
     /// How much is shown of why tests failed.
     pub options: Options,
+}
+
+impl Shown {
+    /// Returns the failed attempts of a test that passed. A flaky test that then counted as failed has none.
+    pub fn attempts(&self, test: &TestNote) -> &[ShownFailure] {
+        let key = key_of(test);
+        let found = self.attempts.iter().find(|(found, _)| *found == key);
+        found.map_or(&[], |(_, attempts)| attempts)
+    }
 }
 
 /// Returns a number as JSON.
@@ -252,7 +274,7 @@ pub fn check(facts: &Facts, json: &str, options: Options) -> Shown {
     let mut value: Value = serde_json::from_str(json).expect("it is JSON");
     // The suites have the failed tests in another order than the run.
     let mut places = facts.suites().into_iter().flat_map(|suite| suite.notes);
-    let mut found = Vec::new();
+    let (mut found, mut attempts) = (Vec::new(), Vec::new());
     for suite in list(&mut value, "suites") {
         for test in list(suite, "tests") {
             let note = places.find_map(|note| match note {
@@ -261,6 +283,8 @@ pub fn check(facts: &Facts, json: &str, options: Options) -> Shown {
             });
             if let Some(note) = note.filter(|note| failure_of(note).is_some()) {
                 found.push((note, take_failure(test)));
+            } else if let Some(note) = note {
+                attempts.push((key_of(note), take_attempts(note, test, options)));
             }
         }
     }
@@ -281,21 +305,49 @@ pub fn check(facts: &Facts, json: &str, options: Options) -> Shown {
                     .position(|(found, _)| std::ptr::eq(*found, test));
                 let (_, shown) = found.swap_remove(place.expect("the failed test is in JSON"));
                 let output = without_colours(facts.output_of(test, failure));
-                check_failure(test, (failure, &output), &shown, options);
-                let why = with_cut_lines(&shown.why, options.output);
-                ShownFailure {
-                    short: with_cut_lines(&shown.short, options.output),
-                    is_partial: shown.is_partial || why != shown.why,
-                    why,
-                    place: shown.place,
-                }
+                checked(test, (failure, &output), shown, options)
             })
             .collect(),
+        attempts,
         problems: problems[no_tests..]
             .iter()
             .map(|why| Some(with_cut_lines(why.as_deref()?, options.output)))
             .collect(),
         options,
+    }
+}
+
+/// Takes the failed attempts of a test that passed out of its object, and returns them as the other forms show them.
+fn take_attempts(test: &TestNote, object: &mut Value, options: Options) -> Vec<ShownFailure> {
+    let found = take(object, "failed_attempts").unwrap_or(json!([]));
+    let found = found.as_array().expect("it is a list").clone();
+    let (failed, _) = attempts_of(test);
+    assert_eq!(found.len(), failed.len());
+    let found = found.into_iter().zip(&failed);
+    let shown = found.map(|(mut attempt, failure)| {
+        assert_eq!(take_text(&mut attempt, "output"), failure.stdout);
+        let shown = take_failure(&mut attempt);
+        assert_eq!(attempt, json!({}));
+        let output = without_colours(failure.stdout.as_deref().unwrap_or(""));
+        checked(test, (failure, &output), shown, options)
+    });
+    shown.collect()
+}
+
+/// Asserts what must be shown of a failed test, and returns what the forms except JSON show.
+fn checked(
+    test: &TestNote,
+    failure: (&Failure, &str),
+    shown: ShownFailure,
+    options: Options,
+) -> ShownFailure {
+    check_failure(test, failure, &shown, options);
+    let why = with_cut_lines(&shown.why, options.output);
+    ShownFailure {
+        short: with_cut_lines(&shown.short, options.output),
+        is_partial: shown.is_partial || why != shown.why,
+        why,
+        place: shown.place,
     }
 }
 

@@ -10,6 +10,7 @@ use deodarsieve_run::{Failure, FailureKind, Note, TestNote, TestOutcome};
 
 /// What is shown of a run, by its notes.
 struct Notes<'a> {
+    shown: &'a Shown,
     failures: Vec<(&'a TestNote, &'a ShownFailure)>,
     problems: Vec<(&'a Note, Option<&'a str>)>,
 }
@@ -20,6 +21,7 @@ impl<'a> Notes<'a> {
         let tests = facts.failures().map(|(test, _)| test);
         let reasons = shown.problems.iter().map(Option::as_deref);
         Notes {
+            shown,
             failures: tests.zip(&shown.failures).collect(),
             problems: facts
                 .problems()
@@ -102,8 +104,13 @@ fn case_of(note: &Note, class: &str, notes: &Notes<'_>) -> Element {
             let flaky = Element::new("flakyFailure")
                 .with("message", "attempt failed")
                 .with("type", "flaky");
-            let failed = test.attempts.max(1) - 1;
-            case.elements(vec![flaky; failed.min(20)])
+            let failed = notes.shown.attempts(test).iter().take(20).map(|shown| {
+                let attempt = Element::new("flakyFailure").with("message", value(&shown.short));
+                attempt.with("type", "flaky").text(&said(&shown.why))
+            });
+            let failed: Vec<_> = failed.collect();
+            let others = (test.attempts.max(1) - 1).min(20) - failed.len();
+            case.elements(failed).elements(vec![flaky; others])
         }
         TestOutcome::Skipped { reason } => {
             let skipped = Element::new("skipped");

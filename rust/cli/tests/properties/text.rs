@@ -1,8 +1,9 @@
 //! The forms that are written while the run is read: `text`, `names`, `github`, and text with annotations.
 
 use crate::facts::{
-    Facts, MARKS, bracket, controlled, crash_end, is_stopped, outcome, own_name, problem_line,
-    shown, status_of, summary, title, turns_writing, without_colours, without_returns,
+    Facts, MARKS, attempts_of, bracket, controlled, crash_end, is_stopped, outcome, own_name,
+    problem_line, shown, status_of, summary, title, turns_writing, without_colours,
+    without_returns,
 };
 use crate::json::{Place, Shown, ShownFailure, limited, reason_of, with_cut_lines};
 use crate::written::{SLOWEST, Written};
@@ -137,24 +138,27 @@ fn passed_word(test: &TestNote) -> String {
     }
 }
 
-/// Returns the lines of a test that passed, and its output.
-fn passed_lines(test: &TestNote, kind: Kind) -> String {
-    let output = match &test.outcome {
-        TestOutcome::Passed {
-            output: Some(output),
-        } => without_returns(without_colours(output).trim_end()),
-        _ => String::new(),
-    };
+/// Returns the lines of a test that passed, its failed attempts and, if all is shown, its output.
+fn passed_lines(test: &TestNote, attempts: &[ShownFailure], kind: Kind) -> String {
+    let (_, output) = attempts_of(test);
+    let output = output.filter(|_| kind.has_all).unwrap_or_default();
+    let output = without_returns(without_colours(&output).trim_end());
     let line = format!(
         "{} {}{}\n",
         passed_word(test),
         bracket(test.time),
         kind.inside(&title(test))
     );
+    if is_after_interrupt(test) {
+        return line;
+    }
+    let attempts = (1..).zip(attempts).map(|(number, shown)| {
+        kind.indented(&format!("attempt {number} failed:")) + &kind.indented(&shown.why)
+    });
+    let lines = line + &attempts.collect::<String>();
     match output.as_str() {
-        "" => line,
-        _ if is_after_interrupt(test) => line,
-        output => line + &kind.indented(output),
+        "" => lines,
+        output => lines + &kind.indented(output),
     }
 }
 
@@ -186,7 +190,7 @@ fn lines_before(facts: &Facts, shown: &Shown, kind: Kind) -> String {
                     }
                 }
                 TestOutcome::Passed { .. } if kind.has_all && test.attempts <= 1 => {
-                    text += &passed_lines(test, kind);
+                    text += &passed_lines(test, &[], kind);
                 }
                 TestOutcome::Skipped { .. } if kind.has_all => {
                     let title = kind.inside(&title(test));
@@ -195,12 +199,17 @@ fn lines_before(facts: &Facts, shown: &Shown, kind: Kind) -> String {
                 TestOutcome::Passed { .. } | TestOutcome::Skipped { .. } | TestOutcome::Stopped => {
                 }
             },
-            Note::Flaky(test) if kind.has_all => text += &passed_lines(test, kind),
+            Note::Flaky(test) => {
+                let attempts = shown.attempts(test);
+                if kind.has_all || !attempts.is_empty() && !is_after_interrupt(test) {
+                    text += &passed_lines(test, attempts, kind);
+                }
+            }
             Note::Disagreement(_) | Note::NotRun(_) if problem_line(note).is_some() => {
                 let why = reasons.next().expect("each problem is shown");
                 text += &problem_lines(note, why.as_deref(), kind);
             }
-            Note::Flaky(_) | Note::Disagreement(_) | Note::NotRun(_) | Note::Suite(_) => {}
+            Note::Disagreement(_) | Note::NotRun(_) | Note::Suite(_) => {}
         }
     }
     text += &kind.own(&without_report(facts, facts.notes.len()));
@@ -275,7 +284,14 @@ fn list(facts: &Facts, shown: &Shown, kind: Kind) -> String {
         .collect();
     flaky.sort_by_key(|test| test.ended);
     for test in flaky {
-        text += &listed(&passed_word(test), test, kind);
+        let mut line = listed(&passed_word(test), test, kind);
+        if let Some(first) = shown.attempts(test).first() {
+            line.insert_str(
+                line.len() - 1,
+                &format!(": {}", in_list(&first.short, kind)),
+            );
+        }
+        text += &line;
     }
     text += &failed_tests(facts, shown, kind);
     for note in &facts.notes {
@@ -332,17 +348,22 @@ pub fn groups<'a>(
     groups
 }
 
+/// Returns a short reason as the list shows it.
+fn in_list(reason: &str, kind: Kind) -> String {
+    if kind.is_raw {
+        reason.to_string()
+    } else {
+        controlled(&reason.replace('\t', " "), false)
+    }
+}
+
 /// Returns the lines of the failed tests in the list.
 fn failed_tests(facts: &Facts, shown: &Shown, kind: Kind) -> String {
     let mut text = String::new();
     for ((status, place, reason), tests) in groups(facts, shown, true) {
         let place = place.map(|place| kind.inside(&controlled(&place, true)) + ": ");
         let place = place.unwrap_or_default();
-        let reason = if kind.is_raw {
-            reason
-        } else {
-            controlled(&reason.replace('\t', " "), false)
-        };
+        let reason = in_list(&reason, kind);
         let titles: Vec<_> = tests.iter().map(|(test, _)| title(test)).collect();
         match titles.as_slice() {
             [title] => {
