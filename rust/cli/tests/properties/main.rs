@@ -196,5 +196,5 @@ fn runs_that_are_compared() {
         let result = std::panic::catch_unwind(|| comparisons::check(run, &[mutated], &path));
         count += result.unwrap_or_else(|_| panic!("the run is {name}, mutated"));
     }
-    assert!(count > 50, "{count}");
+    assert!(count > runs.len(), "{count}");
 }
