@@ -77,7 +77,7 @@ CONDITIONS = {
     "output_slice/src/panic_head.rt": {
         "last_panic_head": Elsewhere(UNCOUNTABLE),
     },
-    "run_events_child/src/child/output.rt": {
+    "run_events_attempts/src/child/output.rt": {
         "ChildOutputDescription::stdout_stderr_len": Arm(
             f"{NOT_LOADED}: `is_loaded` tests it",
             "the output was not loaded.",

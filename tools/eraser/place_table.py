@@ -3,9 +3,9 @@
 # Items that Rust has no need of: the file, and the words with which the item begins.
 DROPPED_ITEMS = (
     # Nothing is refused, so nothing is handed back, and `ErrorList::map` is written by hand.
-    ("run_events_child/src/child/execution.rt", "pub struct Refused"),
-    ("run_events_child/src/child/execution.rt", "fn described_list"),
-    ("run_events_child/src/child/error_list.rt", "impl ErrorList<ChildError>"),
+    ("run_events_attempts/src/child/execution.rt", "pub struct Refused"),
+    ("run_events_attempts/src/child/execution.rt", "fn described_list"),
+    ("run_events_attempts/src/child/error_list.rt", "impl ErrorList<ChildError>"),
     # The iterator is that of a slice.
     (
         "run_events_attempts/src/attempts/statuses.rt",
@@ -51,21 +51,21 @@ pub struct ExecutionStatusesIter<'a, S: OutputSpec> {
         "",
     ),
     # JSON is behind a feature.
-    ("run_events_child/src/chain.rt", "mod json;", '#[cfg(feature = "serde_json")]\nmod json;'),
+    ("run_events_attempts/src/chain.rt", "mod json;", '#[cfg(feature = "serde_json")]\nmod json;'),
     (
-        "run_events_child/src/chain.rt",
+        "run_events_attempts/src/chain.rt",
         "pub use crate::chain::json::FromValueError;",
         '#[cfg(feature = "serde_json")]\npub use crate::chain::json::FromValueError;',
     ),
     # `Debug` is written by hand.
     (
-        "run_events_child/src/chain.rt",
+        "run_events_attempts/src/chain.rt",
         "needs\n/// no stack; the derived `Debug` is recursive.",
         "needs\n/// no stack.",
     ),
     # A `drop` takes a `&mut self` in Rust, and takes the causes apart one by one.
     (
-        "run_events_child/src/chain.rt",
+        "run_events_attempts/src/chain.rt",
         """    fn drop(mut self) {
         loop {
             let SerializableError { message: _, source } = self;
@@ -186,7 +186,7 @@ pub struct ExecutionStatusesIter<'a, S: OutputSpec> {
     ),
     # An object of serde_json is a map.
     (
-        "run_events_child/src/chain/json.rt",
+        "run_events_attempts/src/chain/json.rt",
         """    put(&mut members, alloc, "message", message)?;
     put(&mut members, alloc, "causes", Value::Array(causes))?;
 """,
@@ -199,19 +199,19 @@ pub struct ExecutionStatusesIter<'a, S: OutputSpec> {
     # More attempts than a `u32` counts are never made.
     ("test_tools/src/fixtures.rt", "return Err(AllocError);", 'panic!("a test has too many attempts");'),
     # Nothing is refused, so nothing is handed back.
-    ("run_events_child/src/child.rt", "{ChildExecutionOutput, Refused}", "ChildExecutionOutput"),
+    ("run_events_attempts/src/child.rt", "{ChildExecutionOutput, Refused}", "ChildExecutionOutput"),
     (
-        "run_events_child/src/child/execution.rt",
+        "run_events_attempts/src/child/execution.rt",
         "name: Option<String>,\n    ) -> Result<Self, Refused>",
         "name: Option<String>,\n    ) -> Self",
     ),
     (
-        "run_events_child/src/child/execution.rt",
+        "run_events_attempts/src/child/execution.rt",
         "Ok(ChildExecutionOutputDescription::StartError(error))",
         "ChildExecutionOutputDescription::StartError(error)",
     ),
     (
-        "run_events_child/src/child/execution.rt",
+        "run_events_attempts/src/child/execution.rt",
         """                result,
                 output,
                 errors,

@@ -6,8 +6,7 @@ RUN = "deodarsieve-run"
 # The packages in rust/, each with the crates that become modules of it.
 PACKAGES = {
     LAYER: (
-        "output_slice", "run_events_settings", "run_events_results", "run_events_levels", "run_events_child",
-        "run_events_attempts", "run_events_stats", "run_events_stress", "run_events",
+        "output_slice", "run_events_results", "run_events_attempts", "run_events_stats", "run_events",
     ),
     "deodarsieve-cli": (
         "program_io", "run_digest_engine", "report_text", "template", "report_templates",

@@ -35,10 +35,10 @@ TABLE_SAMPLES = {
     "the places, with two": lambda: with_places({"a": "fn f() { g(); g(); }"}, (), (("a", "g()", "h()"),)),
     "the dropped items, without an item": lambda: with_places({"a": "fn f() {}"}, (("a", "fn g"),), ()),
     "the variants, without a variant": lambda: with_attributes(
-        "pub enum FinalStatusLevel { A }", "run_events_levels/src/levels.rt"
+        "pub enum FinalStatusLevel { A }", "run_events_results/src/levels.rt"
     ),
     "the variants, with the name inside another variant": lambda: with_attributes(
-        "pub enum FinalStatusLevel { A(Flaky) }", "run_events_levels/src/levels.rt"
+        "pub enum FinalStatusLevel { A(Flaky) }", "run_events_results/src/levels.rt"
     ),
     "the types of serde, without a type": lambda: refuse_unused_rows(
         {"output_slice/src/sample.rt": "pub struct A;"}, ("A", "B")

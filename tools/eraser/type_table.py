@@ -78,7 +78,7 @@ RENAMED_METHODS = {
 
 # The files that call them, and their names there.
 RENAMED_CALLS_OF = {
-    "run_events_child/src/chain.rt": {"source": "cause"},
+    "run_events_attempts/src/chain.rt": {"source": "cause"},
     "report_text/src/command.rt": {"add_str": "push_str", "add_char": "push"},
     "report_text/src/sequence.rt": {"add_str": "push_str", "add_char": "push"},
     "report_text/src/shown.rt": {"add_str": "push_str", "add_char": "push"},

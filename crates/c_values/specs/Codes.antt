@@ -1,23 +1,23 @@
 -- The values of codes. A code is a position in the list of its enumeration, counted from 0.
 use Rattle.std.specs.Prelude.{ℤ, List, [], ◌∷◌, Option, None, Some, false, true}
-use Rattle.run_events_levels.specs.declared.levels.FinalStatusLevel.{FinalStatusLevel}
-use Rattle.run_events_levels.specs.declared.levels.FinalStatusLevel.TheVariants as final
-use Rattle.run_events_levels.specs.declared.levels.OutputStoreFinal.{OutputStoreFinal}
-use Rattle.run_events_levels.specs.declared.levels.OutputStoreFinal.TheVariants as store
-use Rattle.run_events_levels.specs.declared.levels.StatusLevel.{StatusLevel}
-use Rattle.run_events_levels.specs.declared.levels.StatusLevel.TheVariants as level
+use Rattle.run_events_results.specs.declared.levels.FinalStatusLevel.{FinalStatusLevel}
+use Rattle.run_events_results.specs.declared.levels.FinalStatusLevel.TheVariants as final
+use Rattle.run_events_results.specs.declared.levels.OutputStoreFinal.{OutputStoreFinal}
+use Rattle.run_events_results.specs.declared.levels.OutputStoreFinal.TheVariants as store
+use Rattle.run_events_results.specs.declared.levels.StatusLevel.{StatusLevel}
+use Rattle.run_events_results.specs.declared.levels.StatusLevel.TheVariants as level
 use Rattle.run_events_results.specs.declared.results.CancelReason.{CancelReason}
 use Rattle.run_events_results.specs.declared.results.CancelReason.TheVariants as reason
 use Rattle.run_events_results.specs.declared.results.ExecutionResultDescription.{ExecutionResultDescription}
 use Rattle.run_events_results.specs.declared.results.ExecutionResultDescription.TheVariants as result
 use Rattle.run_events_results.specs.declared.results.failure.AbortDescription.TheVariants as abort
 use Rattle.run_events_results.specs.declared.results.failure.FailureDescription.TheVariants as failure
-use Rattle.run_events_settings.specs.declared.config.FlakyResult.{FlakyResult}
-use Rattle.run_events_settings.specs.declared.config.FlakyResult.TheVariants as flaky
-use Rattle.run_events_settings.specs.declared.config.LeakTimeoutResult.TheVariants as leak
-use Rattle.run_events_settings.specs.declared.config.SlowTimeoutResult.TheVariants as slow
-use Rattle.run_events_settings.specs.declared.config.TestOutputDisplay.{TestOutputDisplay}
-use Rattle.run_events_settings.specs.declared.config.TestOutputDisplay.TheVariants as display
+use Rattle.run_events_results.specs.declared.config.FlakyResult.{FlakyResult}
+use Rattle.run_events_results.specs.declared.config.FlakyResult.TheVariants as flaky
+use Rattle.run_events_results.specs.declared.config.LeakTimeoutResult.TheVariants as leak
+use Rattle.run_events_results.specs.declared.config.SlowTimeoutResult.TheVariants as slow
+use Rattle.run_events_results.specs.declared.config.TestOutputDisplay.{TestOutputDisplay}
+use Rattle.run_events_results.specs.declared.config.TestOutputDisplay.TheVariants as display
 use Rattle.run_events_stats.specs.declared.outcome.RunFailureStep.TheVariants as step
 use Rattle.run_events_stats.specs.declared.outcome.finished.StressFinalRunStats.{StressFinalRunStats}
 use Rattle.run_events_stats.specs.declared.outcome.finished.StressFinalRunStats.TheVariants as stress

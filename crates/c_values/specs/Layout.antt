@@ -15,12 +15,12 @@ use Rattle.c_values.specs.declared.layout.FfiStressRemaining.{FfiStressRemaining
 use Rattle.c_values.specs.declared.layout.FfiTestView.{FfiTestView}
 use Rattle.output_slice.specs.Extraction.{Extract, error_slice, note_line, panic_slice}
 use Rattle.output_slice.specs.declared.panic_head.HeadSpan.{HeadSpan}
-use Rattle.run_events_levels.specs.TestView.{TestView}
-use Rattle.run_events_levels.specs.Visibility.{Asked, asked_of, visibility}
-use Rattle.run_events_levels.specs.declared.levels.OutputOnTestFinished.{OutputOnTestFinished}
-use Rattle.run_events_levels.specs.declared.levels.StatusLevels.{StatusLevels}
+use Rattle.run_events_results.specs.TestView.{TestView}
+use Rattle.run_events_results.specs.Visibility.{Asked, asked_of, visibility}
+use Rattle.run_events_results.specs.declared.levels.OutputOnTestFinished.{OutputOnTestFinished}
+use Rattle.run_events_results.specs.declared.levels.StatusLevels.{StatusLevels}
 use Rattle.run_events_results.specs.declared.results.ExecutionResultDescription.{ExecutionResultDescription}
-use Rattle.run_events_stress.specs.Progress.{Left, above_zero, endless, nanos, sub_runs}
+use Rattle.run_events.specs.Progress.{Left, above_zero, endless, nanos, sub_runs}
 use Rattle.run_events_stats.specs.Counters.{with_script, with_test}
 use Rattle.run_events_stats.specs.Outcome.{combined, last_summary, outcome_of}
 use Rattle.run_events_stats.specs.Summary.{failed_scripts, failed_tests}

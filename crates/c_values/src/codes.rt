@@ -4,12 +4,12 @@ ghost use Rattle.std.specs.Prelude.{◌≡◌, Some, false, slice_get};
 ghost use Rattle.c_values.specs.Codes.{displays, final_levels, flaky_results, levels, outcomes, reasons, results, stores, stress_finals};
 
 use crate::layout::FfiResult;
-use run_events_levels::levels::{FinalStatusLevel, OutputStoreFinal, StatusLevel};
+use run_events_results::config::{
+    FlakyResult, LeakTimeoutResult, SlowTimeoutResult, TestOutputDisplay,
+};
+use run_events_results::levels::{FinalStatusLevel, OutputStoreFinal, StatusLevel};
 use run_events_results::results::{
     AbortDescription, CancelReason, ExecutionResultDescription, FailureDescription,
-};
-use run_events_settings::config::{
-    FlakyResult, LeakTimeoutResult, SlowTimeoutResult, TestOutputDisplay,
 };
 use run_events_stats::outcome::{RunFailureStep, RunOutcome, StressFinalRunStats};
 

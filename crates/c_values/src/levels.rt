@@ -5,7 +5,7 @@ ghost use Rattle.c_values.specs.Layout.{output_in, visibility_in};
 
 use crate::codes;
 use crate::layout::{FfiFinishedTest, FfiOutput};
-use run_events_levels::levels::{OutputOnTestFinished, StatusLevels};
+use run_events_results::levels::{OutputOnTestFinished, StatusLevels};
 
 /// Returns what is displayed and stored, or `None` if a code is not in its table.
 pub fn output_of(test: &FfiFinishedTest) -> Option<OutputOnTestFinished>

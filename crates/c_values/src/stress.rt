@@ -3,11 +3,11 @@
 ghost use Rattle.std.specs.Prelude.{◌≡◌, Option, Some, option_map};
 ghost use Rattle.std.specs.Duration.{as_nanos};
 ghost use Rattle.c_values.specs.Layout.{HasOnlyItsKind, duration_in, left_after, left_in};
-ghost use Rattle.run_events_stress.specs.Progress.{left_of, remaining_of};
+ghost use Rattle.run_events.specs.Progress.{left_of, remaining_of};
 
 use crate::layout::{FfiDuration, FfiStressProgress, FfiStressRemaining};
-use run_events_settings::stress::NonZeroDuration;
-use run_events_stress::progress::{StressCount, StressProgress, StressRemaining};
+use run_events::progress::{StressCount, StressProgress, StressRemaining};
+use run_events_results::stress::NonZeroDuration;
 use std::num::NonZero;
 use std::time::Duration;
 

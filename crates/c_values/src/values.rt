@@ -2,12 +2,12 @@
 
 ghost use Rattle.std.specs.Prelude.{◌≡◌, MatchOption, Some, option_map};
 ghost use Rattle.c_values.specs.Layout.{HasNoMore, IsStepAlone, final_in, kind_in, stats_in, view_in};
-ghost use Rattle.run_events_levels.specs.TestView.{finished_view};
+ghost use Rattle.run_events_results.specs.TestView.{finished_view};
 
 use crate::codes;
 use crate::layout::{FfiFinalStats, FfiRunStats, FfiTestView};
 use crate::status::{BAD_CODE, OK};
-use run_events_levels::view::FinishedTest;
+use run_events_results::view::FinishedTest;
 use run_events_stats::outcome::{FinalRunStats, RunStatsFailureKind};
 use run_events_stats::stats::RunStats;
 

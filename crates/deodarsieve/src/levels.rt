@@ -4,7 +4,7 @@ ghost use Rattle.std.specs.Prelude.{◌≡◌, ◌≢◌, Some, option_and_then,
 ghost use Rattle.c_values.specs.Codes.{final_levels, levels};
 ghost use Rattle.c_values.specs.Layout.{output_in, result_in, view_in, visibility_in};
 ghost use Rattle.c_values.specs.Status.{status_of};
-ghost use Rattle.run_events_levels.specs.Level.{final_level_of, level_of};
+ghost use Rattle.run_events_results.specs.Level.{final_level_of, level_of};
 ghost use Rattle.run_events_results.specs.Results.{is_termination_failure, succeeds};
 
 use c_values::layout::{FfiFinishedTest, FfiOutput, FfiResult, FfiTestView};

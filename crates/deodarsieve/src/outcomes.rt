@@ -11,7 +11,7 @@ use c_values::layout::{FfiFinalStats, FfiRunStats};
 use c_values::outcomes::outcome_of;
 use c_values::status::{BAD_CODE, OK};
 use c_values::{codes, values};
-use run_events_settings::stress::StressIndex;
+use run_events_results::stress::StressIndex;
 use run_events_stats::outcome::StressRunStats;
 
 /// Writes the summary of a finished run's counters, for any values of them.

@@ -15,9 +15,9 @@ use Rattle.run_digest_engine.specs.Reader.{named, result_of, result_words, resul
 use Rattle.run_digest_engine.specs.Spelling.{ResultWord, result_named, word_of, ScriptLine, SpellsStart, SpellsUnit, TestLine, flag_words, unit_said}
 use Rattle.run_digest_engine.proofs.Exact.{Reads, reads-by, reads-put, reads_all, reads_only, none_spelled, reads-then, reads_one, result_found, table_reads, word_passes, chosen, word_is_plain}
 use Rattle.run_digest_engine.proofs.PlainWords.{Pass, cut_joined, is_letter, is_plain, join_passes, weaker_words, joined_is_text}
-use Rattle.run_events_levels.specs.TestView.{TestView}
-use Rattle.run_events_settings.specs.declared.config.FlakyResult.{FlakyResult}
-use Rattle.run_events_settings.specs.declared.config.FlakyResult.TheVariants as setting
+use Rattle.run_events_results.specs.TestView.{TestView}
+use Rattle.run_events_results.specs.declared.config.FlakyResult.{FlakyResult}
+use Rattle.run_events_results.specs.declared.config.FlakyResult.TheVariants as setting
 use Rattle.run_events_stats.specs.Counters.{ScriptUnit, TestUnit, UnitView}
 use Rattle.run_events_stats.specs.declared.stats.RunStart.{RunStart}
 use Rattle.run_digest_engine.specs.Reading.{HasEntry}

@@ -5,10 +5,10 @@ use Rattle.std.specs.Prelude.{[], ◌∷◌, length, fold, map, Option, Some, No
 use Rattle.std.specs.Char.{is_ascii_digit}
 use Rattle.std.specs.List.{list_all, slice_split}
 use Rattle.std.specs.Str.{bytes_eq}
-use Rattle.run_events_levels.specs.TestView.{TestView}
+use Rattle.run_events_results.specs.TestView.{TestView}
 use Rattle.run_events_stats.specs.Counters.{UnitView, ScriptUnit, TestUnit}
-use Rattle.run_events_settings.specs.declared.config.FlakyResult.{FlakyResult}
-use Rattle.run_events_settings.specs.declared.config.FlakyResult.TheVariants as setting
+use Rattle.run_events_results.specs.declared.config.FlakyResult.{FlakyResult}
+use Rattle.run_events_results.specs.declared.config.FlakyResult.TheVariants as setting
 use Rattle.run_events_results.specs.declared.results.CancelReason.{CancelReason}
 use Rattle.run_events_results.specs.declared.results.ExecutionResultDescription.{ExecutionResultDescription}
 use Rattle.run_events_results.specs.declared.results.ExecutionResultDescription.TheVariants as result

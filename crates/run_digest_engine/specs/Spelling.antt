@@ -1,11 +1,11 @@
 -- The grammar of the lines of the input.
 use Rattle.std.specs.Prelude.{◌≡◌, ◌<◌, ◌+◌, ◌==◌, ℕ, Bool, true, false, if◌then◌else◌, List, [], ◌∷◌, ◌++◌, map, length, codes, pos, Option, None, Some}
 use Rattle.std.specs.List.{join_with_byte}
-use Rattle.run_events_levels.specs.Visibility.{severity}
+use Rattle.run_events_results.specs.Visibility.{severity}
 use Rattle.run_events_stats.specs.Counters.{UnitView, ScriptUnit, TestUnit}
-use Rattle.run_events_settings.specs.declared.config.FlakyResult.TheVariants as setting
-use Rattle.run_events_settings.specs.declared.config.LeakTimeoutResult.TheVariants as leak
-use Rattle.run_events_settings.specs.declared.config.SlowTimeoutResult.TheVariants as slow
+use Rattle.run_events_results.specs.declared.config.FlakyResult.TheVariants as setting
+use Rattle.run_events_results.specs.declared.config.LeakTimeoutResult.TheVariants as leak
+use Rattle.run_events_results.specs.declared.config.SlowTimeoutResult.TheVariants as slow
 use Rattle.run_events_results.specs.declared.results.CancelReason.{CancelReason}
 use Rattle.run_events_results.specs.declared.results.CancelReason.TheVariants as reason
 use Rattle.run_events_results.specs.declared.results.ExecutionResultDescription.{ExecutionResultDescription}

@@ -7,8 +7,8 @@ ghost use Rattle.run_digest_engine.specs.Reader.{entry_of_words, words_of};
 use crate::parts::Parts;
 use crate::units::{parse_script, parse_test};
 use crate::words::parse_start;
-use run_events_levels::view::FinishedTest;
 use run_events_results::results::ExecutionResultDescription;
+use run_events_results::view::FinishedTest;
 use run_events_stats::stats::RunStart;
 
 /// A line after line 1.

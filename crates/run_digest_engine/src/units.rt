@@ -1,13 +1,13 @@
 //! The lines of finished units.
 
 ghost use Rattle.std.specs.Prelude.{◌≡◌, option_map};
-ghost use Rattle.run_events_levels.specs.TestView.{finished_view};
+ghost use Rattle.run_events_results.specs.TestView.{finished_view};
 ghost use Rattle.run_digest_engine.specs.Reader.{results_of, script_of_words, test_of_words};
 
 use crate::parts::Parts;
 use crate::words::{parse_flags, parse_result};
-use run_events_levels::view::FinishedTest;
 use run_events_results::results::{ExecutionResult, ExecutionResultDescription};
+use run_events_results::view::FinishedTest;
 
 /// The greatest number of results of a test.
 const MAX_RESULTS: usize = 100;

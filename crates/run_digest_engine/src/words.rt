@@ -8,8 +8,8 @@ ghost use Rattle.run_digest_engine.specs.Reader.{flags_of, number_of, reason_of,
 ghost use Rattle.run_digest_engine.specs.Spelling.{reason_word};
 
 use crate::parts::Parts;
+use run_events_results::config::{FlakyResult, LeakTimeoutResult, SlowTimeoutResult};
 use run_events_results::results::{CancelReason, ExecutionResult, FailureStatus};
-use run_events_settings::config::{FlakyResult, LeakTimeoutResult, SlowTimeoutResult};
 use run_events_stats::stats::RunStart;
 
 /// The greatest number of digits of a number.

@@ -1,6 +1,6 @@
 -- Lists of errors, and empty lists.
 use Rattle.std.proofs.Common.{◌≡◌, ◌↔◌, ℕ, List, [], ◌∷◌, ◌++◌, Option, Some, None, IsNone, IfSome, map, refl, sym, ap, ◌∙◌}
-use Rattle.run_events_child.specs.ListedErrors.{ListedErrors}
+use Rattle.run_events_attempts.specs.ListedErrors.{ListedErrors}
 use Rattle.run_events.specs.UnitErrors.{ErrorOfUnit, IsListOf, error_seen}
 use Rattle.run_events.specs.declared.unit_error.errors.UnitError.{UnitError}
 

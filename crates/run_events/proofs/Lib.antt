@@ -1,1 +1,2 @@
 pub mod EmptyLists
+pub mod SubRunIds

@@ -3,18 +3,18 @@ use Rattle.std.specs.Prelude.{◌≡◌, ◌≢◌, ℕ, Bool, true, false, List
 use Rattle.std.specs.Option.{option_map_or}
 use Rattle.output_slice.specs.Extraction.{Extract, IsExtract, LiesIn}
 use Rattle.output_slice.specs.Shown.{extract_of, shown_text}
-use Rattle.run_events_child.specs.ChildOutput.{IsLoaded}
-use Rattle.run_events_child.specs.ListedErrors.{ListedErrors}
+use Rattle.run_events_attempts.specs.ChildOutput.{IsLoaded}
+use Rattle.run_events_attempts.specs.ListedErrors.{ListedErrors}
 use Rattle.run_events_results.specs.Results.{succeeds}
-use Rattle.run_events_child.specs.ChildErrors.{child_error_text, start_error_text}
+use Rattle.run_events_attempts.specs.ChildErrors.{child_error_text, start_error_text}
 use Rattle.run_events_results.specs.Texts.{unit_abort_text}
-use Rattle.run_events_child.specs.declared.child.ChildExecutionOutputDescription.{ChildExecutionOutputDescription}
-use Rattle.run_events_child.specs.declared.child.ChildExecutionOutputDescription.TheVariants as left
-use Rattle.run_events_child.specs.declared.child.LiveSpec.{LiveSpec}
-use Rattle.run_events_child.specs.declared.child.errors.ChildErrorDescription.{ChildErrorDescription}
-use Rattle.run_events_child.specs.declared.child.errors.ChildStartErrorDescription.{ChildStartErrorDescription}
-use Rattle.run_events_child.specs.declared.child.output.ChildOutputDescription.{ChildOutputDescription}
-use Rattle.run_events_child.specs.declared.child.output.ChildOutputDescription.TheVariants.{Combined, NotLoaded, Split}
+use Rattle.run_events_attempts.specs.declared.child.ChildExecutionOutputDescription.{ChildExecutionOutputDescription}
+use Rattle.run_events_attempts.specs.declared.child.ChildExecutionOutputDescription.TheVariants as left
+use Rattle.run_events_attempts.specs.declared.child.LiveSpec.{LiveSpec}
+use Rattle.run_events_attempts.specs.declared.child.errors.ChildErrorDescription.{ChildErrorDescription}
+use Rattle.run_events_attempts.specs.declared.child.errors.ChildStartErrorDescription.{ChildStartErrorDescription}
+use Rattle.run_events_attempts.specs.declared.child.output.ChildOutputDescription.{ChildOutputDescription}
+use Rattle.run_events_attempts.specs.declared.child.output.ChildOutputDescription.TheVariants.{Combined, NotLoaded, Split}
 use Rattle.run_events_results.specs.declared.results.ExecutionResultDescription.{ExecutionResultDescription}
 use Rattle.run_events_results.specs.declared.results.ExecutionResultDescription.TheVariants.{Fail}
 use Rattle.run_events_results.specs.declared.results.UnitKind.{UnitKind}

@@ -7,6 +7,6 @@ pub use crate::config::carried::{
     StressCondition, TestGroup, TestInstanceId, TestList,
 };
 pub use run_events_attempts::moment::Moment;
-pub use run_events_settings::config::{
+pub use run_events_results::config::{
     FlakyResult, LeakTimeoutResult, SlowTimeoutResult, TestOutputDisplay,
 };

@@ -24,15 +24,12 @@
 #![tactic(auto)]
 
 pub use output_slice;
-pub use run_events_attempts::attempts;
-pub use run_events_child::{chain, child};
-pub use run_events_levels::{levels, view};
-pub use run_events_results::results;
-pub use run_events_settings::{run_mode, stress};
+pub use run_events_attempts::{attempts, chain, child};
+pub use run_events_results::{levels, results, run_mode, stress, view};
 pub use run_events_stats::{outcome, stats};
-pub use run_events_stress::progress;
 
 pub mod config;
 pub mod events;
 pub mod laws;
+pub mod progress;
 pub mod unit_error;

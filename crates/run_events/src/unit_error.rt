@@ -6,10 +6,10 @@ ghost use Rattle.output_slice.specs.Extraction.{Extract};
 ghost use Rattle.output_slice.specs.Shown.{extract_of};
 ghost use Rattle.run_events_results.specs.Texts.{executing_text};
 ghost use Rattle.run_events.specs.UnitErrors.{CanDescribe, IsExtractOf, IsListOf, IsSliceOf, LiesInOutput, LiesInStreams, abort_error, aborts_in, all_errors, child_process_errors, child_process_of, error_seen, errors_of, exec_fail_errors, exec_fail_of, is_failed_test, kind_of, output_error, described_slice};
-ghost use Rattle.run_events_child.specs.ChildOutput.{IsLoaded};
+ghost use Rattle.run_events_attempts.specs.ChildOutput.{IsLoaded};
 
 use output_slice::subslice::TestOutputErrorSlice;
-use run_events_child::child::{
+use run_events_attempts::child::{
     ChildErrorDescription, ChildExecutionOutputDescription, ChildOutputDescription,
     ChildSingleOutput, ChildStartErrorDescription, ErrorList, LiveSpec,
 };

@@ -5,7 +5,7 @@ use Rattle.std.proofs.lemmas.Bool.{or_right}
 use Rattle.std.proofs.lemmas.List.{get_or_push, length_push, take_rest}
 use Rattle.std.proofs.lemmas.Option.{slice_get_read}
 use Rattle.run_events_attempts.specs.Description.{ComesTo, HasFinalLevel, described_final_level, described_level, is_success_description}
-use Rattle.run_events_levels.specs.Level.{final_level_of, level_of}
+use Rattle.run_events_results.specs.Level.{final_level_of, level_of}
 use Rattle.run_events_results.specs.Results.{succeeds}
 use Rattle.run_events_attempts.specs.Attempts.{attempts_of, last_of, flaky_result_of, view_of}
 use Rattle.run_events_attempts.specs.declared.attempts.ExecuteStatus.{ExecuteStatus}

@@ -1,1 +1,3 @@
+pub mod ChainLemmas
 pub mod LastAttempt
+pub mod SameChains

@@ -1,13 +1,13 @@
 -- The attempts of a test, and the parts of them that decide how it counts.
 use Rattle.std.specs.Prelude.{◌≡◌, ◌<◌, ◌≤◌, ◌⊎◌, ◌-◌, false, List, Option, length, slice_get}
 use Rattle.std.specs.Option.{option_map_or}
-use Rattle.run_events_settings.specs.declared.config.FlakyResult.{FlakyResult}
+use Rattle.run_events_results.specs.declared.config.FlakyResult.{FlakyResult}
 use Rattle.run_events_results.specs.declared.results.ExecutionResultDescription.TheVariants.{Pass}
 use Rattle.run_events_attempts.specs.declared.attempts.ExecuteStatus.{ExecuteStatus}
 use Rattle.run_events_attempts.specs.declared.attempts.RetryData.{RetryData}
 use Rattle.run_events_attempts.specs.declared.attempts.statuses.ExecutionStatuses.{ExecutionStatuses}
 use Rattle.run_events_attempts.specs.declared.attempts.statuses.ExecutionStatusesIter.{ExecutionStatusesIter}
-use Rattle.run_events_levels.specs.TestView.{TestView}
+use Rattle.run_events_results.specs.TestView.{TestView}
 
 -- the attempts of a test, in order
 abbrev pub attempts_of : {S D : Type 0} → ExecutionStatuses S D → List (ExecuteStatus S D)

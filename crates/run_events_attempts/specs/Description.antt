@@ -1,16 +1,16 @@
 -- The description of a test by its attempts, and the levels of a description.
 use Rattle.std.specs.Prelude.{◌≡◌, ◌<◌, ◌||◌, Bool, true, false, List, [], ◌∷◌, ◌++◌, length, Option, Some}
-use Rattle.run_events_levels.specs.Level.{final_flaky_level, final_success_level, flaky_level, success_level}
+use Rattle.run_events_results.specs.Level.{final_flaky_level, final_success_level, flaky_level, success_level}
 use Rattle.run_events_results.specs.Results.{succeeds}
 use Rattle.run_events_attempts.specs.Attempts.{last_of}
 use Rattle.run_events_attempts.specs.declared.attempts.ExecuteStatus.{ExecuteStatus}
 use Rattle.run_events_attempts.specs.declared.attempts.description.ExecutionDescription.{ExecutionDescription}
 use Rattle.run_events_attempts.specs.declared.attempts.description.ExecutionDescription.TheVariants.{Failure, Flaky, Success}
-use Rattle.run_events_settings.specs.declared.config.FlakyResult.{FlakyResult}
-use Rattle.run_events_levels.specs.declared.levels.FinalStatusLevel.{FinalStatusLevel}
-use Rattle.run_events_levels.specs.declared.levels.FinalStatusLevel.TheVariants as final
-use Rattle.run_events_levels.specs.declared.levels.StatusLevel.{StatusLevel}
-use Rattle.run_events_levels.specs.declared.levels.StatusLevel.TheVariants as level
+use Rattle.run_events_results.specs.declared.config.FlakyResult.{FlakyResult}
+use Rattle.run_events_results.specs.declared.levels.FinalStatusLevel.{FinalStatusLevel}
+use Rattle.run_events_results.specs.declared.levels.FinalStatusLevel.TheVariants as final
+use Rattle.run_events_results.specs.declared.levels.StatusLevel.{StatusLevel}
+use Rattle.run_events_results.specs.declared.levels.StatusLevel.TheVariants as level
 
 -- The description of attempts with a setting. One attempt that succeeded is a success. Several attempts of which the last
 -- succeeded are flaky, with the last one, those before it, and the setting. Attempts of which the last did not succeed are a

@@ -1,2 +1,10 @@
 pub mod Attempts
+pub mod ChainObject
+pub mod ChainReading
+pub mod ChainValue
+pub mod ChildErrors
+pub mod ChildOutput
 pub mod Description
+pub mod ErrorChain
+pub mod Execution
+pub mod ListedErrors

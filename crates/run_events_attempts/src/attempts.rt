@@ -2,8 +2,8 @@
 
 ghost use Rattle.std.specs.Prelude.{◌↔◌, ◌≤◌, IsTrue};
 
+use crate::child::{ChildExecutionOutputDescription, OutputSpec};
 use crate::moment::Moment;
-use run_events_child::child::{ChildExecutionOutputDescription, OutputSpec};
 use run_events_results::results::ExecutionResultDescription;
 use std::collections::BTreeMap;
 use std::time::Duration;

@@ -1,5 +1,8 @@
-//! The attempts of a finished test. `ExecutionDescription` says whether the test succeeded, was flaky or
-//! failed. `Moment` is a point in time, with an offset from UTC.
+//! The attempts of a finished test, and what its child process leaves: its output, and the errors of
+//! starting it and of reading from it.
+//!
+//! `ExecutionDescription` says whether the test succeeded, was flaky or failed. The module `chain` has the
+//! type of an error with its causes. `Moment` is a point in time, with an offset from UTC.
 //!
 //! A function that returns the result of a test in one word:
 //!
@@ -18,5 +21,7 @@
 #![tactic(auto)]
 
 pub mod attempts;
+pub mod chain;
+pub mod child;
 pub mod laws;
 pub mod moment;

@@ -1,1 +1,3 @@
 pub mod Hexadecimal
+pub mod SubRunOrder
+pub mod VisibilityLaws

@@ -1,4 +1,10 @@
 pub mod CancelReasons
+pub mod Config
 pub mod Described
+pub mod Level
+pub mod LevelRanks
 pub mod Results
+pub mod Stress
+pub mod TestView
 pub mod Texts
+pub mod Visibility

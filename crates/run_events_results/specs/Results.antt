@@ -2,10 +2,10 @@
 use Rattle.std.specs.Prelude.{Bool, true, false, ℕ, pos, List, ◌++◌, codes}
 use Rattle.std.specs.Fmt.{signed_decimal}
 use Rattle.std.specs.Ordering.{int_eq}
-use Rattle.run_events_settings.specs.declared.config.FlakyResult.{FlakyResult}
-use Rattle.run_events_settings.specs.declared.config.FlakyResult.TheVariants as flaky
-use Rattle.run_events_settings.specs.declared.config.LeakTimeoutResult.TheVariants as leak
-use Rattle.run_events_settings.specs.declared.config.SlowTimeoutResult.TheVariants as slow
+use Rattle.run_events_results.specs.declared.config.FlakyResult.{FlakyResult}
+use Rattle.run_events_results.specs.declared.config.FlakyResult.TheVariants as flaky
+use Rattle.run_events_results.specs.declared.config.LeakTimeoutResult.TheVariants as leak
+use Rattle.run_events_results.specs.declared.config.SlowTimeoutResult.TheVariants as slow
 use Rattle.run_events_results.specs.declared.results.failure.AbortStatus.{AbortStatus}
 use Rattle.run_events_results.specs.declared.results.failure.AbortStatus.TheVariants.{UnixSignal}
 use Rattle.run_events_results.specs.declared.results.failure.AbortDescription.{AbortDescription}

@@ -1,4 +1,7 @@
-//! The results of attempts to run a test or a setup script, and the reasons to cancel a run.
+//! How an attempt to run a test or a setup script ended, how it counts and what is shown of it.
+//!
+//! The modules `config`, `run_mode` and `stress` have the settings that decide this, and the numbers of sub-runs. `levels`
+//! ranks how much attention a finished test needs. `view` has what decides about it.
 //!
 //! A function that returns the result of an attempt in one word:
 //!
@@ -15,5 +18,10 @@
 //! ```
 #![tactic(auto)]
 
+pub mod config;
 pub mod laws;
+pub mod levels;
 pub mod results;
+pub mod run_mode;
+pub mod stress;
+pub mod view;

@@ -7,7 +7,7 @@ ghost use Rattle.run_events_results.specs.Described.{described_result};
 ghost use Rattle.run_events_results.specs.Texts.{executing_text, waiting_text};
 ghost use Rattle.run_events_results.specs.Results as spec;
 
-use run_events_settings::config::{LeakTimeoutResult, SlowTimeoutResult};
+use crate::config::{LeakTimeoutResult, SlowTimeoutResult};
 
 mod failure;
 

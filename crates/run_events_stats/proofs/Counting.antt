@@ -5,7 +5,7 @@ use Rattle.std.specs.List.{filter_map}
 use Rattle.std.proofs.lemmas.List.{append-nil, length-map, map_more}
 use Rattle.std.proofs.lemmas.List.Elements.{filter_map-append}
 use Rattle.run_events_stats.specs.Counters.{UnitView, ScriptUnit, TestUnit, unit_view, count_of, stats_of, with_test, with_script, TestCountersFit, ScriptCountersFit}
-use Rattle.run_events_levels.specs.TestView.{TestView}
+use Rattle.run_events_results.specs.TestView.{TestView}
 use Rattle.run_events_results.specs.declared.results.ExecutionResultDescription.{ExecutionResultDescription}
 use Rattle.run_events_stats.specs.declared.stats.FinishedUnit.{FinishedUnit}
 use Rattle.run_events_stats.specs.declared.stats.RunStart.{RunStart}

@@ -2,17 +2,17 @@
 use Rattle.std.proofs.Common.{◌≡◌, ◌+◌, ◌<◌, ◌^◌, List, length, Bool, true, cond, not, ◌&&◌, ◌||◌, refl, arith}
 use Rattle.std.specs.Prelude.{Option, Some}
 use Rattle.run_events_stats.specs.Counters.{UnitView, count_of, is_exec_failed, is_failed, is_failed_timed_out, is_flaky, is_passed, script_exec_failed, script_failed, script_of, script_passed, script_timed_out, scripts_of, stats_of, test_of, tests_of, was_retried}
-use Rattle.run_events_levels.specs.Level.{flaky_level, has_level_fail, has_level_retry, is_level_fail, is_level_retry, success_level}
+use Rattle.run_events_results.specs.Level.{flaky_level, has_level_fail, has_level_retry, is_level_fail, is_level_retry, success_level}
 use Rattle.run_events_results.specs.Results.{succeeds, is_leak_fail, is_fail, is_exec_fail, is_timeout_fail, flaky_fails}
 use Rattle.run_events_stats.specs.RunLaws.{has_no_failure}
 use Rattle.run_events_stats.specs.Summary.{FailuresFit}
-use Rattle.run_events_levels.specs.TestView.{TestView}
-use Rattle.run_events_settings.specs.declared.config.FlakyResult.{FlakyResult}
-use Rattle.run_events_settings.specs.declared.config.FlakyResult.TheVariants as flaky
-use Rattle.run_events_settings.specs.declared.config.LeakTimeoutResult.TheVariants as leak
-use Rattle.run_events_settings.specs.declared.config.SlowTimeoutResult.TheVariants as slow
-use Rattle.run_events_levels.specs.declared.levels.StatusLevel.{StatusLevel}
-use Rattle.run_events_levels.specs.declared.levels.StatusLevel.TheVariants as level
+use Rattle.run_events_results.specs.TestView.{TestView}
+use Rattle.run_events_results.specs.declared.config.FlakyResult.{FlakyResult}
+use Rattle.run_events_results.specs.declared.config.FlakyResult.TheVariants as flaky
+use Rattle.run_events_results.specs.declared.config.LeakTimeoutResult.TheVariants as leak
+use Rattle.run_events_results.specs.declared.config.SlowTimeoutResult.TheVariants as slow
+use Rattle.run_events_results.specs.declared.levels.StatusLevel.{StatusLevel}
+use Rattle.run_events_results.specs.declared.levels.StatusLevel.TheVariants as level
 use Rattle.run_events_results.specs.declared.results.ExecutionResultDescription.{ExecutionResultDescription}
 use Rattle.run_events_results.specs.declared.results.ExecutionResultDescription.TheVariants as result
 use Rattle.run_events_stats.specs.declared.stats.RunStart.{RunStart}

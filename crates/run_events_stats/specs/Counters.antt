@@ -2,7 +2,7 @@
 use Rattle.std.specs.Prelude.{◌<◌, ◌^◌, ◌+◌, ℕ, Bool, not, ◌&&◌, ◌||◌, if◌then◌else◌, List, length, filter, nat_lt, Option, Some, None}
 use Rattle.std.specs.List.{filter_map}
 use Rattle.run_events_attempts.specs.Attempts.{view_of}
-use Rattle.run_events_levels.specs.TestView.{TestView}
+use Rattle.run_events_results.specs.TestView.{TestView}
 use Rattle.run_events_results.specs.CancelReasons.{reason_rank}
 use Rattle.run_events_results.specs.Results.{succeeds, is_pass, is_leak_pass, is_leak_fail, is_fail, is_exec_fail, is_timeout_pass, is_timeout_fail, flaky_fails}
 use Rattle.run_events_results.specs.declared.results.CancelReason.{CancelReason}

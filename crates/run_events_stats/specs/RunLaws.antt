@@ -2,8 +2,8 @@
 use Rattle.std.specs.Prelude.{◌≡◌, ◌≤◌, ◌<◌, Bool, not, List, length}
 use Rattle.std.specs.List.{AllPass}
 use Rattle.run_events_stats.specs.Counters.{UnitView, script_passed, scripts_of, sum_of, tests_of}
-use Rattle.run_events_levels.specs.Level.{has_level_fail}
-use Rattle.run_events_levels.specs.TestView.{TestView}
+use Rattle.run_events_results.specs.Level.{has_level_fail}
+use Rattle.run_events_results.specs.TestView.{TestView}
 use Rattle.run_events_stats.specs.declared.stats.RunStart.{RunStart}
 use Rattle.run_events_stats.specs.declared.stats.RunStats.{RunStats}
 

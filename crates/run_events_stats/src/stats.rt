@@ -1,7 +1,7 @@
 //! The counters of a run.
 
 use run_events_attempts::attempts::{ExecutionStatuses, SetupScriptExecuteStatus};
-use run_events_child::child::LiveSpec;
+use run_events_attempts::child::LiveSpec;
 use run_events_results::results::CancelReason;
 use std::fmt;
 

@@ -1,12 +1,12 @@
 -- How a test that finished counts.
 use Rattle.std.specs.Prelude.{ℕ, Bool, false, pos}
-use Rattle.run_events_levels.specs.TestView.{TestView}
+use Rattle.run_events_results.specs.TestView.{TestView}
 use Rattle.run_events_results.specs.declared.results.ExecutionResultDescription.{ExecutionResultDescription}
 use Rattle.run_events_results.specs.declared.results.ExecutionResultDescription.TheVariants as described
 use Rattle.run_events_results.specs.declared.results.FailureDescription.TheVariants as failure
-use Rattle.run_events_settings.specs.declared.config.FlakyResult.{FlakyResult}
-use Rattle.run_events_settings.specs.declared.config.FlakyResult.TheVariants as flaky
-use Rattle.run_events_settings.specs.declared.config.SlowTimeoutResult.TheVariants as slow
+use Rattle.run_events_results.specs.declared.config.FlakyResult.{FlakyResult}
+use Rattle.run_events_results.specs.declared.config.FlakyResult.TheVariants as flaky
+use Rattle.run_events_results.specs.declared.config.SlowTimeoutResult.TheVariants as slow
 use Rattle.test_report_run_notes.specs.Note.{KindView, HasTimedOut, IsFlaky}
 use Rattle.test_report_run_notes.specs.declared.finish.Finish.{Finish}
 use Rattle.test_report_run_notes.specs.declared.finish.Finish.TheVariants.{Passed, FlakyFailed, Failed, TimedOut}

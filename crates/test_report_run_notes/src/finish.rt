@@ -1,14 +1,14 @@
 //! How a test finished, as the statistics and levels of the layer take it.
 
 ghost use Rattle.std.specs.Prelude.{◌≡◌};
-ghost use Rattle.run_events_levels.specs.TestView.{finished_view};
+ghost use Rattle.run_events_results.specs.TestView.{finished_view};
 ghost use Rattle.test_report_run_notes.specs.Finish.{finish_for, result_of, view_of_finish};
 ghost use Rattle.test_report_run_notes.specs.Note.{kind_view};
 
 use crate::note::FailureKind;
-use run_events_levels::view::FinishedTest;
+use run_events_results::config::{FlakyResult, SlowTimeoutResult};
 use run_events_results::results::{ExecutionResultDescription, FailureDescription};
-use run_events_settings::config::{FlakyResult, SlowTimeoutResult};
+use run_events_results::view::FinishedTest;
 
 /// The exit code of Rust's test harness if a test failed.
 const HARNESS_FAILED: i32 = 101;

@@ -13,13 +13,13 @@ use jiff::tz::Offset;
 use run_events_attempts::attempts::{
     ExecuteStatus, ExecutionStatuses, RetryData, SetupScriptExecuteStatus,
 };
-use run_events_attempts::moment::Moment;
-use run_events_child::chain::SerializableError;
-use run_events_child::child::{
+use run_events_attempts::chain::SerializableError;
+use run_events_attempts::child::{
     ChildExecutionOutputDescription, ChildOutputDescription, ChildSingleOutput, LiveSpec,
 };
+use run_events_attempts::moment::Moment;
+use run_events_results::config::{FlakyResult, LeakTimeoutResult, SlowTimeoutResult};
 use run_events_results::results::{ExecutionResult, ExecutionResultDescription, FailureStatus};
-use run_events_settings::config::{FlakyResult, LeakTimeoutResult, SlowTimeoutResult};
 use std::alloc::{AllocError, Global};
 use std::time::Duration;
 

@@ -9,11 +9,11 @@ use Rattle.run_events.specs.Results.{result_word, succeeds}
 use Rattle.run_events.specs.RunLaws.{has_no_failure}
 use Rattle.run_events.specs.TestView.{TestView}
 use Rattle.run_events.specs.Visibility.{is_stored}
-use Rattle.run_events_settings.specs.declared.config.TestOutputDisplay.{TestOutputDisplay}
-use Rattle.run_events_levels.specs.declared.levels.FinalStatusLevel.{FinalStatusLevel}
-use Rattle.run_events_levels.specs.declared.levels.OutputStoreFinal.{OutputStoreFinal}
-use Rattle.run_events_levels.specs.declared.levels.OutputStoreFinal.TheVariants.{No, Yes}
-use Rattle.run_events_levels.specs.declared.levels.StatusLevel.{StatusLevel}
+use Rattle.run_events_results.specs.declared.config.TestOutputDisplay.{TestOutputDisplay}
+use Rattle.run_events_results.specs.declared.levels.FinalStatusLevel.{FinalStatusLevel}
+use Rattle.run_events_results.specs.declared.levels.OutputStoreFinal.{OutputStoreFinal}
+use Rattle.run_events_results.specs.declared.levels.OutputStoreFinal.TheVariants.{No, Yes}
+use Rattle.run_events_results.specs.declared.levels.StatusLevel.{StatusLevel}
 use Rattle.uses.specs.declared.displayer.Displayer.{Displayer}
 
 -- the level of a test is greater than that of the displayer, so the test gets no line

@@ -2,9 +2,9 @@
 use Rattle.std.specs.Prelude.{Bool, true, false, Option, IfSome, option_map}
 use Rattle.output_slice.specs.Extraction.{Extract}
 use Rattle.output_slice.specs.Shown.{extract_of}
-use Rattle.run_events_child.specs.declared.child.ChildExecutionOutputDescription.{ChildExecutionOutputDescription}
-use Rattle.run_events_child.specs.declared.child.LiveSpec.{LiveSpec}
-use Rattle.run_events_child.specs.declared.child.output.ChildOutputDescription.{ChildOutputDescription}
+use Rattle.run_events_attempts.specs.declared.child.ChildExecutionOutputDescription.{ChildExecutionOutputDescription}
+use Rattle.run_events_attempts.specs.declared.child.LiveSpec.{LiveSpec}
+use Rattle.run_events_attempts.specs.declared.child.output.ChildOutputDescription.{ChildOutputDescription}
 use Rattle.run_events_results.specs.declared.results.UnitKind.TheVariants as UnitKind
 use Rattle.run_events.specs.UnitErrors.{CanDescribe, IsSliceOf, LiesInOutput}
 use Rattle.uses.specs.declared.junit.TestCase.{TestCase}

@@ -3,7 +3,7 @@ use Rattle.std.specs.Prelude.{◌≢◌, ℕ, List, Option, None, Some, option_a
 use Rattle.serde_json.specs.Read.{read}
 use Rattle.run_events.specs.ChainReading.{read_chain}
 use Rattle.run_events.specs.ErrorChain.{ErrorChain}
-use Rattle.run_events_child.specs.declared.chain.json.FromValueError.{FromValueError}
+use Rattle.run_events_attempts.specs.declared.chain.json.FromValueError.{FromValueError}
 use Rattle.uses.specs.declared.recorder.LoadError.{LoadError}
 use Rattle.uses.specs.declared.recorder.LoadError.TheVariants.{OutOfMemory}
 

@@ -6,12 +6,12 @@ use Rattle.run_events.specs.Attempts.{attempts_of, last_of, view_of}
 use Rattle.run_events.specs.TestView.{TestView}
 use Rattle.run_events_attempts.specs.declared.attempts.RetryData.{RetryData}
 use Rattle.run_events_attempts.specs.declared.attempts.statuses.ExecutionStatuses.{ExecutionStatuses}
-use Rattle.run_events_child.specs.declared.child.ChildExecutionOutputDescription.{ChildExecutionOutputDescription}
-use Rattle.run_events_child.specs.declared.child.ChildExecutionOutputDescription.TheVariants as left
-use Rattle.run_events_child.specs.declared.child.LiveSpec.{LiveSpec}
-use Rattle.run_events_child.specs.declared.child.output.ChildOutputDescription.{ChildOutputDescription}
-use Rattle.run_events_child.specs.declared.child.output.ChildOutputDescription.TheVariants.{Combined, NotLoaded, Split}
-use Rattle.run_events_settings.specs.declared.config.FlakyResult.{FlakyResult}
+use Rattle.run_events_attempts.specs.declared.child.ChildExecutionOutputDescription.{ChildExecutionOutputDescription}
+use Rattle.run_events_attempts.specs.declared.child.ChildExecutionOutputDescription.TheVariants as left
+use Rattle.run_events_attempts.specs.declared.child.LiveSpec.{LiveSpec}
+use Rattle.run_events_attempts.specs.declared.child.output.ChildOutputDescription.{ChildOutputDescription}
+use Rattle.run_events_attempts.specs.declared.child.output.ChildOutputDescription.TheVariants.{Combined, NotLoaded, Split}
+use Rattle.run_events_results.specs.declared.config.FlakyResult.{FlakyResult}
 use Rattle.run_events.specs.declared.events.ReporterEvent.{ReporterEvent}
 use Rattle.run_events.specs.declared.events.ReporterEvent.TheVariants as told
 use Rattle.run_events.specs.declared.events.kind.TestEventKind.{TestEventKind}

@@ -3,7 +3,7 @@
 ghost use Rattle.std.specs.Prelude.{◌≡◌, Err, IfErr, IfOk, IsErrOf, None, Some, option_map, string_bytes};
 ghost use Rattle.serde_json.specs.Read.{read};
 ghost use Rattle.run_events.specs.ChainReading.{read_chain};
-ghost use Rattle.run_events_child.specs.declared.chain.json.FromValueError.{FromValueError};
+ghost use Rattle.run_events_attempts.specs.declared.chain.json.FromValueError.{FromValueError};
 ghost use Rattle.uses.specs.Recorder.{IsRefusal, chain_in};
 
 use run_events::chain::{FromValueError, SerializableError};

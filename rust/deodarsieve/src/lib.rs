@@ -137,17 +137,13 @@ mod moment;
 mod output_slice;
 mod run_events;
 mod run_events_attempts;
-mod run_events_child;
-mod run_events_levels;
 mod run_events_results;
-mod run_events_settings;
 mod run_events_stats;
-mod run_events_stress;
 mod std_impls;
 
 /// The mode of a run: tests or benchmarks.
 pub mod run_mode {
-    pub use crate::run_events_settings::run_mode::NextestRunMode;
+    pub use crate::run_events_results::run_mode::NextestRunMode;
 }
 
 /// The types that reporters receive, and the decisions what to show.
@@ -160,7 +156,7 @@ pub mod reporter {
     pub use crate::run_events::unit_error::{
         UnitAbortDescription, UnitError, UnitErrorDescription,
     };
-    pub use crate::run_events_levels::levels::{FinalStatusLevel, StatusLevel};
+    pub use crate::run_events_results::levels::{FinalStatusLevel, StatusLevel};
 
     /// The events of a run, and the types in them: results, attempts, counters and outcomes.
     pub mod events {
@@ -169,35 +165,35 @@ pub mod reporter {
             TestInfoResponse, TestSlotAssignment, TestsNotSeen, UnitState, UnitTerminateMethod,
             UnitTerminateReason, UnitTerminateSignal, UnitTerminatingState,
         };
+        pub use crate::run_events::progress::{StressProgress, StressRemaining};
         pub use crate::run_events_attempts::attempts::{
             EmptyStatuses, ErrorSummary, ExecuteStatus, ExecutionDescription, ExecutionStatuses,
             ExecutionStatusesIter, OutputErrorSlice, RetryData, SetupScriptEnvMap,
             SetupScriptExecuteStatus,
         };
-        pub use crate::run_events_child::chain::{SerializableError, SerializableErrorSources};
-        pub use crate::run_events_child::child::{
+        pub use crate::run_events_attempts::chain::{SerializableError, SerializableErrorSources};
+        pub use crate::run_events_attempts::child::{
             ChildErrorDescription, ChildExecutionOutputDescription, ChildOutputDescription,
             ChildStartErrorDescription,
         };
-        pub use crate::run_events_levels::view::{FinishedTest, TestView};
         pub use crate::run_events_results::results::{
             AbortDescription, AbortStatus, CancelReason, ExecutionResult,
             ExecutionResultDescription, FailureDescription, FailureStatus, SIGTERM, UnitKind,
         };
-        pub use crate::run_events_settings::stress::{NonZeroDuration, StressIndex};
+        pub use crate::run_events_results::stress::{NonZeroDuration, StressIndex};
+        pub use crate::run_events_results::view::{FinishedTest, TestView};
         pub use crate::run_events_stats::outcome::{
             FinalRunStats, RunFailureStep, RunFinishedStats, RunOutcome, RunStatsFailureKind,
             StressFinalRunStats, StressRunStats,
         };
         pub use crate::run_events_stats::stats::{FinishedRun, FinishedUnit, RunStart, RunStats};
-        pub use crate::run_events_stress::progress::{StressProgress, StressRemaining};
     }
 
     /// The display of a run on a terminal.
     pub mod displayer {
         /// Which lines and which output a reporter shows of a finished test.
         pub mod status_level {
-            pub use crate::run_events_levels::levels::{
+            pub use crate::run_events_results::levels::{
                 OutputOnTestFinished, OutputStoreFinal, StatusLevels,
             };
         }
@@ -230,8 +226,8 @@ pub mod list {
 /// Errors of child processes, lists of errors, and the errors of this crate's functions.
 pub mod errors {
     #[cfg(feature = "serde_json")]
-    pub use crate::run_events_child::chain::FromValueError;
-    pub use crate::run_events_child::child::{
+    pub use crate::run_events_attempts::chain::FromValueError;
+    pub use crate::run_events_attempts::child::{
         ChildError, ChildFdError, ChildStartError, ErrorList,
     };
     pub use crate::run_events_stats::stats::CounterFull;
@@ -239,7 +235,7 @@ pub mod errors {
 
 /// The forms in which events hold the output of a child process.
 pub mod output_spec {
-    pub use crate::run_events_child::child::{LiveSpec, OutputSpec};
+    pub use crate::run_events_attempts::child::{LiveSpec, OutputSpec};
     #[cfg(feature = "serde")]
     pub use crate::std_impls::serde::SerializableOutputSpec;
 }
@@ -247,12 +243,12 @@ pub mod output_spec {
 /// Settings of a runner.
 pub mod runner {
     pub use crate::run_events::config::StressCondition;
-    pub use crate::run_events_stress::progress::StressCount;
+    pub use crate::run_events::progress::StressCount;
 }
 
 /// The captured output of a child process, as a runner has it.
 pub mod test_output {
-    pub use crate::run_events_child::child::{
+    pub use crate::run_events_attempts::child::{
         ChildExecutionOutput, ChildOutput, ChildSingleOutput, ChildSplitOutput,
     };
 }

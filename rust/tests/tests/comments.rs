@@ -8,9 +8,9 @@ use deodarsieve_tests::named::{reasons, word_of};
 
 const HEADER: &str = include_str!("../../c/include/deodarsieve.h");
 const LAWS: &str = include_str!("../../../crates/run_events_results/src/laws.rt");
-const OUTPUT: &str = include_str!("../../../crates/run_events_levels/src/levels/output.rt");
+const OUTPUT: &str = include_str!("../../../crates/run_events_results/src/levels/output.rt");
 const RUN_DIGEST: &str = include_str!("../../../docs/RUN-DIGEST.md");
-const VISIBILITY: &str = include_str!("../../../crates/run_events_levels/specs/Visibility.antt");
+const VISIBILITY: &str = include_str!("../../../crates/run_events_results/specs/Visibility.antt");
 
 /// Returns the names between two texts: parts of letters, `-` and `_`.
 fn names_between<'a>(text: &'a str, start: &str, end: &str) -> Vec<&'a str> {

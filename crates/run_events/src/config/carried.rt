@@ -1,6 +1,6 @@
 //! Values of other parts of a runner. Nothing in this crate reads them.
 
-use run_events_stress::progress::StressCount;
+use crate::progress::StressCount;
 use std::time::Duration;
 
 /// The id of a test, borrowed from the list of tests.

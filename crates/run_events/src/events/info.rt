@@ -3,8 +3,8 @@
 use crate::config::{ScriptId, TestInstanceId};
 use crate::events::unit_state::UnitState;
 use run_events_attempts::attempts::RetryData;
-use run_events_child::child::{ChildExecutionOutputDescription, LiveSpec};
-use run_events_settings::stress::StressIndex;
+use run_events_attempts::child::{ChildExecutionOutputDescription, LiveSpec};
+use run_events_results::stress::StressIndex;
 
 /// The response of a unit to a request for information.
 #[derive(Drop)]

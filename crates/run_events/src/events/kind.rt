@@ -7,14 +7,14 @@ use crate::config::{
 use crate::events::info::InfoResponse;
 use crate::events::not_seen::TestsNotSeen;
 use crate::events::slots::TestSlotAssignment;
+use crate::progress::StressProgress;
 use run_events_attempts::attempts::{
     ExecuteStatus, ExecutionStatuses, RetryData, SetupScriptExecuteStatus,
 };
-use run_events_child::child::LiveSpec;
-use run_events_settings::stress::StressIndex;
+use run_events_attempts::child::LiveSpec;
+use run_events_results::stress::StressIndex;
 use run_events_stats::outcome::RunFinishedStats;
 use run_events_stats::stats::RunStats;
-use run_events_stress::progress::StressProgress;
 use std::time::Duration;
 use uuid::Uuid;
 

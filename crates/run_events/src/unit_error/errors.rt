@@ -5,7 +5,7 @@ ghost use Rattle.run_events_results.specs.Texts.{unit_abort_text};
 ghost use Rattle.run_events.specs.UnitErrors.{unit_error_text};
 
 use output_slice::subslice::TestOutputErrorSlice;
-use run_events_child::child::{ChildErrorDescription, ChildStartErrorDescription};
+use run_events_attempts::child::{ChildErrorDescription, ChildStartErrorDescription};
 use run_events_results::results::AbortDescription;
 use std::fmt;
 

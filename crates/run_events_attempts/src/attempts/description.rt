@@ -4,9 +4,9 @@ ghost use Rattle.std.specs.Prelude.{◌≡◌, ◌↔◌, ◌<◌, IsTrue, Some,
 ghost use Rattle.run_events_attempts.specs.Description.{ComesTo, HasFinalLevel, IsConsistent, described_final_level, described_level, is_success_description, last_described};
 
 use crate::attempts::ExecuteStatus;
-use run_events_child::child::OutputSpec;
-use run_events_levels::levels::{FinalStatusLevel, StatusLevel};
-use run_events_settings::config::FlakyResult;
+use crate::child::OutputSpec;
+use run_events_results::config::FlakyResult;
+use run_events_results::levels::{FinalStatusLevel, StatusLevel};
 use std::alloc::AllocError;
 
 /// The description of a finished test, for reporters. It depends only on the number of attempts and

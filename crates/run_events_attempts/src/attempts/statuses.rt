@@ -4,9 +4,9 @@ ghost use Rattle.std.specs.Prelude.{◌<◌, vec_len};
 
 use crate::attempts::ExecuteStatus;
 use crate::attempts::description::ExecutionDescription;
-use run_events_child::child::OutputSpec;
-use run_events_levels::view::TestView;
-use run_events_settings::config::FlakyResult;
+use crate::child::OutputSpec;
+use run_events_results::config::FlakyResult;
+use run_events_results::view::TestView;
 
 /// All attempts of a finished test, in order, and how the test counts if it is flaky. There is always
 /// at least one attempt.
@@ -25,9 +25,9 @@ impl<S: OutputSpec> ExecutionStatuses<S> {
     ghost use Rattle.std.specs.Prelude.{◌≡◌, ◌↔◌, ◌<◌, [], IfOk, IsErr, Some, length, vec_len};
     ghost use Rattle.run_events_attempts.specs.Attempts.{attempts_left, attempts_of, last_of, flaky_result_of, view_of};
     ghost use Rattle.run_events_attempts.specs.Description.{ComesTo, HasFinalLevel, IsConsistent, described_final_level, described_level, is_success_description};
-    ghost use Rattle.run_events_levels.specs.Level.{final_level_of, level_of};
+    ghost use Rattle.run_events_results.specs.Level.{final_level_of, level_of};
     ghost use Rattle.run_events_results.specs.Results.{succeeds};
-    ghost use Rattle.run_events_levels.specs.TestView.{said_of};
+    ghost use Rattle.run_events_results.specs.TestView.{said_of};
 
     /// Returns a test with these attempts, in order.
     ///

@@ -5,7 +5,7 @@ ghost use Rattle.run_events_stats.specs.Outcome.{final_stats_of, stress_summary_
 
 use crate::outcome::FinalRunStats;
 use crate::stats::RunStats;
-use run_events_settings::stress::StressIndex;
+use run_events_results::stress::StressIndex;
 
 /// The statistics of a finished run. They are in the last event of a run.
 #[derive(Clone, Copy, Debug, PartialEq, Eq)]

@@ -2,7 +2,7 @@
 
 ghost use Rattle.std.specs.Prelude.{◌≡◌, ◌↔◌, ◌+◌, ◌++◌, List, map};
 ghost use Rattle.run_events_stats.specs.Counters.{UnitView, count_of, stats_of, tests_of, unit_view};
-ghost use Rattle.run_events_levels.specs.Level.{has_level_fail, has_level_retry};
+ghost use Rattle.run_events_results.specs.Level.{has_level_fail, has_level_retry};
 ghost use Rattle.run_events_stats.specs.RunLaws.{IsSum, RunSucceeds, has_no_failure};
 ghost use Rattle.run_events_stats.specs.Summary.{FailuresFit, failed_scripts, failed_tests, summary_of};
 ghost use Rattle.run_events_stats.specs.declared.outcome.FinalRunStats.TheVariants.{Success};

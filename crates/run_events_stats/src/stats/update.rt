@@ -2,16 +2,16 @@
 
 ghost use Rattle.std.specs.Prelude.{◌≡◌, ◌↔◌, IsOk, IsTrue, OnErr, OnOk, false, true};
 ghost use Rattle.run_events_attempts.specs.Attempts.{view_of};
-ghost use Rattle.run_events_levels.specs.TestView.{said_of};
+ghost use Rattle.run_events_results.specs.TestView.{said_of};
 ghost use Rattle.run_events_results.specs.Results.{succeeds};
 ghost use Rattle.run_events_stats.specs.Counters.{ScriptCountersFit, TestCountersFit, with_failed, with_script, with_result, with_test};
 
 use crate::stats::{CounterFull, RunStats};
 use run_events_attempts::attempts::{ExecutionStatuses, SetupScriptExecuteStatus};
-use run_events_child::child::LiveSpec;
-use run_events_levels::view::TestView;
+use run_events_attempts::child::LiveSpec;
+use run_events_results::config::{FlakyResult, LeakTimeoutResult};
 use run_events_results::results::ExecutionResultDescription;
-use run_events_settings::config::{FlakyResult, LeakTimeoutResult};
+use run_events_results::view::TestView;
 
 impl RunStats {
     /// Counts a finished test, given the view of it.

@@ -8,6 +8,6 @@ pub use crate::run_events::config::carried::{
     JunitFlakyFailStatus, MismatchReason, OwnedTestInstanceId, ReportSkipPolicy, ScriptId,
     StressCondition, TestGroup, TestInstanceId, TestList,
 };
-pub use crate::run_events_settings::config::{
+pub use crate::run_events_results::config::{
     FlakyResult, LeakTimeoutResult, SlowTimeoutResult, TestOutputDisplay,
 };

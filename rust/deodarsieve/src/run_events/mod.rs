@@ -23,4 +23,5 @@
 
 pub mod config;
 pub mod events;
+pub mod progress;
 pub mod unit_error;

@@ -2,7 +2,7 @@
 //! The errors of a test or a setup script.
 
 use crate::output_slice::subslice::TestOutputErrorSlice;
-use crate::run_events_child::child::{
+use crate::run_events_attempts::child::{
     ChildErrorDescription, ChildExecutionOutputDescription, ChildOutputDescription,
     ChildSingleOutput, ChildStartErrorDescription, ErrorList, LiveSpec,
 };

@@ -2,7 +2,7 @@
 //! The attempts to run a test or a setup script.
 
 use crate::moment::Moment;
-use crate::run_events_child::child::{ChildExecutionOutputDescription, OutputSpec};
+use crate::run_events_attempts::child::{ChildExecutionOutputDescription, OutputSpec};
 use crate::run_events_results::results::ExecutionResultDescription;
 use alloc::collections::BTreeMap;
 use alloc::string::String;

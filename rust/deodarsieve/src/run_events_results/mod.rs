@@ -1,5 +1,8 @@
 // Made by tools/erase from crates/run_events_results/src/lib.rt. Do not edit.
-//! The results of attempts to run a test or a setup script, and the reasons to cancel a run.
+//! How an attempt to run a test or a setup script ended, how it counts and what is shown of it.
+//!
+//! The modules `config`, `run_mode` and `stress` have the settings that decide this, and the numbers of sub-runs. `levels`
+//! ranks how much attention a finished test needs. `view` has what decides about it.
 //!
 //! A function that returns the result of an attempt in one word:
 //!
@@ -14,4 +17,9 @@
 //! assert_eq!(word_of(ExecutionResult::ExecFail), "exec-fail");
 //! ```
 
+pub mod config;
+pub mod levels;
 pub mod results;
+pub mod run_mode;
+pub mod stress;
+pub mod view;

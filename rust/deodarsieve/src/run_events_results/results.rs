@@ -1,7 +1,7 @@
 // Made by tools/erase from crates/run_events_results/src/results.rt. Do not edit.
 //! The results of attempts, and the reasons to cancel a run.
 
-use crate::run_events_settings::config::{LeakTimeoutResult, SlowTimeoutResult};
+use crate::run_events_results::config::{LeakTimeoutResult, SlowTimeoutResult};
 use alloc::string::String;
 
 mod failure;

@@ -2,7 +2,7 @@
 //! The counters of a run.
 
 use crate::run_events_attempts::attempts::{ExecutionStatuses, SetupScriptExecuteStatus};
-use crate::run_events_child::child::LiveSpec;
+use crate::run_events_attempts::child::LiveSpec;
 use crate::run_events_results::results::CancelReason;
 use core::fmt;
 

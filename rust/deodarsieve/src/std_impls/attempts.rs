@@ -7,7 +7,7 @@ use crate::run_events::unit_error::UnitErrorDescription;
 use crate::run_events_attempts::attempts::{
     ErrorSummary, ExecuteStatus, OutputErrorSlice, RetryData,
 };
-use crate::run_events_child::child::{
+use crate::run_events_attempts::child::{
     ChildExecutionOutputDescription, ChildOutputDescription, ChildSingleOutput, LiveSpec,
 };
 use crate::run_events_results::results::{ExecutionResultDescription, UnitKind};

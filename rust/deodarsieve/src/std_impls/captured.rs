@@ -1,6 +1,6 @@
 //! Captured output as text.
 
-use crate::run_events_child::child::ChildSingleOutput;
+use crate::run_events_attempts::child::ChildSingleOutput;
 use alloc::borrow::Cow;
 use alloc::string::String;
 

@@ -1,7 +1,7 @@
 //! Conversions from the values of a runner to the descriptions that reporters get.
 
 use super::signal_names;
-use crate::run_events_child::child::{
+use crate::run_events_attempts::child::{
     ChildError, ChildExecutionOutput, ChildExecutionOutputDescription, ChildFdError, LiveSpec,
 };
 use crate::run_events_results::results::{

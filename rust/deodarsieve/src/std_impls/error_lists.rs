@@ -1,6 +1,6 @@
 //! Hand-written methods and traits of [`ErrorList`].
 
-use crate::run_events_child::child::ErrorList;
+use crate::run_events_attempts::child::ErrorList;
 use alloc::string::String;
 use core::error::Error;
 use core::fmt::{self, Write};

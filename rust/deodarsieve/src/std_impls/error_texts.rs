@@ -2,8 +2,8 @@
 
 use crate::run_events_attempts::attempts::EmptyStatuses;
 #[cfg(feature = "serde_json")]
-use crate::run_events_child::chain::FromValueError;
-use crate::run_events_child::child::{ChildError, ChildFdError, ChildStartError};
+use crate::run_events_attempts::chain::FromValueError;
+use crate::run_events_attempts::child::{ChildError, ChildFdError, ChildStartError};
 use core::fmt;
 
 impl fmt::Display for ChildStartError {

@@ -5,8 +5,8 @@ use crate::output_slice::TestOutputErrorSlice;
 use crate::run_events::unit_error::{UnitAbortDescription, UnitError};
 use crate::run_events_attempts::attempts::EmptyStatuses;
 #[cfg(feature = "serde_json")]
-use crate::run_events_child::chain::FromValueError;
-use crate::run_events_child::child::{
+use crate::run_events_attempts::chain::FromValueError;
+use crate::run_events_attempts::child::{
     ChildError, ChildErrorDescription, ChildFdError, ChildStartError, ChildStartErrorDescription,
 };
 use crate::run_events_stats::stats::CounterFull;

@@ -1,6 +1,6 @@
 //! Errors of the operating system, as a runner gets them.
 
-use crate::run_events_child::chain::SerializableError;
+use crate::run_events_attempts::chain::SerializableError;
 use alloc::sync::Arc;
 use std::io;
 

@@ -1,6 +1,6 @@
 //! `Debug` of [`NonZeroDuration`], as of a tuple struct.
 
-use crate::run_events_settings::stress::NonZeroDuration;
+use crate::run_events_results::stress::NonZeroDuration;
 use core::fmt;
 
 impl fmt::Debug for NonZeroDuration {

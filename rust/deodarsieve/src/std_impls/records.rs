@@ -4,7 +4,7 @@
 use crate::run_events_attempts::attempts::{
     ExecuteStatus, ExecutionDescription, ExecutionStatuses, SetupScriptExecuteStatus,
 };
-use crate::run_events_child::child::{ChildExecutionOutputDescription, OutputSpec};
+use crate::run_events_attempts::child::{ChildExecutionOutputDescription, OutputSpec};
 use alloc::vec::Vec;
 use core::fmt;
 

@@ -1,7 +1,7 @@
 //! Hand-written methods and traits of [`SerializableError`]. Its causes are a linked list, so
 //! everything that visits them is a loop: recursion would overflow the stack on a long chain.
 
-use crate::run_events_child::chain::{SerializableError, SerializableErrorSources};
+use crate::run_events_attempts::chain::{SerializableError, SerializableErrorSources};
 use alloc::string::{String, ToString};
 use core::error::Error;
 use core::fmt;

@@ -1,7 +1,7 @@
 //! The errors of a unit as errors of any type.
 
 use crate::run_events::unit_error::UnitErrorDescription;
-use crate::run_events_child::child::ErrorList;
+use crate::run_events_attempts::child::ErrorList;
 use core::error::Error;
 
 impl UnitErrorDescription<'_> {

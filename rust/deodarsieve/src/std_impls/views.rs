@@ -1,8 +1,8 @@
 //! Functions that make a [`TestView`] outside the crate.
 
-use crate::run_events_levels::view::TestView;
+use crate::run_events_results::config::FlakyResult;
 use crate::run_events_results::results::ExecutionResultDescription;
-use crate::run_events_settings::config::FlakyResult;
+use crate::run_events_results::view::TestView;
 
 impl<'a> TestView<'a> {
     /// Returns a test with this result at its only attempt, which was not slow. If it is given more

@@ -1,7 +1,7 @@
 // Made by tools/erase from crates/run_events/src/config/carried.rt. Do not edit.
 //! Values of other parts of a runner. Nothing in this crate reads them.
 
-use crate::run_events_stress::progress::StressCount;
+use crate::run_events::progress::StressCount;
 use alloc::string::String;
 use core::time::Duration;
 

@@ -4,8 +4,8 @@
 use crate::run_events::config::{ScriptId, TestInstanceId};
 use crate::run_events::events::unit_state::UnitState;
 use crate::run_events_attempts::attempts::RetryData;
-use crate::run_events_child::child::{ChildExecutionOutputDescription, LiveSpec};
-use crate::run_events_settings::stress::StressIndex;
+use crate::run_events_attempts::child::{ChildExecutionOutputDescription, LiveSpec};
+use crate::run_events_results::stress::StressIndex;
 use alloc::string::String;
 use alloc::vec::Vec;
 

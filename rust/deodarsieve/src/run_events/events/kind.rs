@@ -8,14 +8,14 @@ use crate::run_events::config::{
 use crate::run_events::events::info::InfoResponse;
 use crate::run_events::events::not_seen::TestsNotSeen;
 use crate::run_events::events::slots::TestSlotAssignment;
+use crate::run_events::progress::StressProgress;
 use crate::run_events_attempts::attempts::{
     ExecuteStatus, ExecutionStatuses, RetryData, SetupScriptExecuteStatus,
 };
-use crate::run_events_child::child::LiveSpec;
-use crate::run_events_settings::stress::StressIndex;
+use crate::run_events_attempts::child::LiveSpec;
+use crate::run_events_results::stress::StressIndex;
 use crate::run_events_stats::outcome::RunFinishedStats;
 use crate::run_events_stats::stats::RunStats;
-use crate::run_events_stress::progress::StressProgress;
 use alloc::string::String;
 use alloc::vec::Vec;
 use core::time::Duration;

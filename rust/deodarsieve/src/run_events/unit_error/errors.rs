@@ -2,7 +2,7 @@
 //! The errors of a unit, one by one.
 
 use crate::output_slice::subslice::TestOutputErrorSlice;
-use crate::run_events_child::child::{ChildErrorDescription, ChildStartErrorDescription};
+use crate::run_events_attempts::child::{ChildErrorDescription, ChildStartErrorDescription};
 use crate::run_events_results::results::AbortDescription;
 use core::fmt;
 

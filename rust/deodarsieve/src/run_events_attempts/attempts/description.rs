@@ -2,9 +2,9 @@
 //! The description of a finished test by its attempts.
 
 use crate::run_events_attempts::attempts::ExecuteStatus;
-use crate::run_events_child::child::OutputSpec;
-use crate::run_events_levels::levels::{FinalStatusLevel, StatusLevel};
-use crate::run_events_settings::config::FlakyResult;
+use crate::run_events_attempts::child::OutputSpec;
+use crate::run_events_results::config::FlakyResult;
+use crate::run_events_results::levels::{FinalStatusLevel, StatusLevel};
 
 /// The description of a finished test, for reporters. It depends only on the number of attempts and
 /// the result of the last one.

@@ -3,9 +3,9 @@
 
 use crate::run_events_attempts::attempts::ExecuteStatus;
 use crate::run_events_attempts::attempts::description::ExecutionDescription;
-use crate::run_events_child::child::OutputSpec;
-use crate::run_events_levels::view::TestView;
-use crate::run_events_settings::config::FlakyResult;
+use crate::run_events_attempts::child::OutputSpec;
+use crate::run_events_results::config::FlakyResult;
+use crate::run_events_results::view::TestView;
 use alloc::vec::Vec;
 
 /// All attempts of a finished test, in order, and how the test counts if it is flaky. There is always

@@ -1,7 +1,7 @@
 // Made by tools/erase from crates/run_events_stats/src/outcome/finished.rt. Do not edit.
 //! The statistics of a finished run.
 
-use crate::run_events_settings::stress::StressIndex;
+use crate::run_events_results::stress::StressIndex;
 use crate::run_events_stats::outcome::FinalRunStats;
 use crate::run_events_stats::stats::RunStats;
 

@@ -2,10 +2,10 @@
 //! The changes of the counters by a finished unit.
 
 use crate::run_events_attempts::attempts::{ExecutionStatuses, SetupScriptExecuteStatus};
-use crate::run_events_child::child::LiveSpec;
-use crate::run_events_levels::view::TestView;
+use crate::run_events_attempts::child::LiveSpec;
+use crate::run_events_results::config::{FlakyResult, LeakTimeoutResult};
 use crate::run_events_results::results::ExecutionResultDescription;
-use crate::run_events_settings::config::{FlakyResult, LeakTimeoutResult};
+use crate::run_events_results::view::TestView;
 use crate::run_events_stats::stats::{CounterFull, RunStats};
 
 impl RunStats {

@@ -5,9 +5,9 @@ use crate::moment::Moment;
 use crate::run_events_attempts::attempts::{
     ErrorSummary, ExecuteStatus, ExecutionStatuses, OutputErrorSlice, RetryData,
 };
-use crate::run_events_child::child::{ChildExecutionOutputDescription, OutputSpec};
+use crate::run_events_attempts::child::{ChildExecutionOutputDescription, OutputSpec};
+use crate::run_events_results::config::FlakyResult;
 use crate::run_events_results::results::ExecutionResultDescription;
-use crate::run_events_settings::config::FlakyResult;
 use ::serde::de::Error;
 use ::serde::{Deserialize, Deserializer, Serialize, Serializer};
 use alloc::vec::Vec;

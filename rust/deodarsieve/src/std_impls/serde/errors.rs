@@ -1,7 +1,7 @@
 //! Errors with their causes, and lists of errors.
 
-use crate::run_events_child::chain::SerializableError;
-use crate::run_events_child::child::ErrorList;
+use crate::run_events_attempts::chain::SerializableError;
+use crate::run_events_attempts::child::ErrorList;
 use crate::run_events_results::results::UnitKind;
 use ::serde::de::Error;
 use ::serde::{Deserialize, Deserializer, Serialize, Serializer};

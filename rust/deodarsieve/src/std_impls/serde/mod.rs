@@ -6,7 +6,7 @@ mod errors;
 mod moment;
 mod test_group;
 
-use crate::run_events_child::child::OutputSpec;
+use crate::run_events_attempts::child::OutputSpec;
 use ::serde::{Serialize, de::DeserializeOwned};
 
 /// An [`OutputSpec`] whose description of output can be serialized and deserialized. Every such

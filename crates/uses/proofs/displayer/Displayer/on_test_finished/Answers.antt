@@ -6,10 +6,10 @@ use Rattle.run_events.specs.Attempts.{view_of}
 use Rattle.run_events.specs.TestView.{TestView}
 use Rattle.run_events.specs.Results.{is_termination_failure, succeeds}
 use Rattle.run_events.specs.Visibility.{is_stored}
-use Rattle.run_events_settings.specs.declared.config.TestOutputDisplay.{TestOutputDisplay}
-use Rattle.run_events_levels.specs.declared.levels.OutputOnTestFinished.{OutputOnTestFinished}
-use Rattle.run_events_levels.specs.declared.levels.OutputStoreFinal.{OutputStoreFinal}
-use Rattle.run_events_levels.specs.declared.levels.OutputStoreFinal.TheVariants.{No, Yes}
+use Rattle.run_events_results.specs.declared.config.TestOutputDisplay.{TestOutputDisplay}
+use Rattle.run_events_results.specs.declared.levels.OutputOnTestFinished.{OutputOnTestFinished}
+use Rattle.run_events_results.specs.declared.levels.OutputStoreFinal.{OutputStoreFinal}
+use Rattle.run_events_results.specs.declared.levels.OutputStoreFinal.TheVariants.{No, Yes}
 use Rattle.uses.specs.Displayer.{display_of, without_output}
 use Rattle.uses.proofs.DisplayerLemmas.{hidden_when_stopped, shown_up_to_signal, stored_below_signal, stored_under_signal}
 use Rattle.uses.proofs.displayer.Displayer.on_test_finished.Goals as goal

@@ -1,2 +1,0 @@
-pub mod ChainLemmas
-pub mod SameChains

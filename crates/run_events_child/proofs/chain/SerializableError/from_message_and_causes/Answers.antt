@@ -1,5 +1,0 @@
-use Rattle.std.proofs.Common.{rules}
-use Rattle.run_events_child.proofs.chain.SerializableError.from_message_and_causes.Goals as goal
-
-pub link-init : goal.link-init
-link-init c = search rules

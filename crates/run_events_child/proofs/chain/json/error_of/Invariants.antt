@@ -1,7 +1,0 @@
-use Rattle.std.proofs.Common.{◌≡◌, map, take, string_bytes}
-use Rattle.run_events_child.specs.ChainObject.{texts_of}
-use Rattle.run_events_child.proofs.chain.json.error_of.Given as goal
-
--- the texts of the causes so far
-abbrev pub invariant-loop-cause : goal.invariant-loop-cause
-invariant-loop-cause l = map string_bytes l.texts.items ≡ texts_of (take l.cause-index l.causes)

@@ -1,5 +1,0 @@
-use Rattle.std.proofs.Common.{rules}
-use Rattle.run_events_child.proofs.child.output.ChildOutputDescription.is_loaded.Goals as goal
-
-pub returns-in-NotLoaded : goal.returns-in-NotLoaded
-returns-in-NotLoaded c = search rules

@@ -1,4 +1,0 @@
-pub mod Level
-pub mod LevelRanks
-pub mod TestView
-pub mod Visibility

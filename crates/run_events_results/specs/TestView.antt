@@ -1,0 +1,25 @@
+-- The parts of a finished test that decide its counters and its levels.
+use Rattle.std.specs.Prelude.{ℕ, Bool}
+use Rattle.run_events_results.specs.declared.config.FlakyResult.{FlakyResult}
+use Rattle.run_events_results.specs.declared.results.ExecutionResultDescription.{ExecutionResultDescription}
+use Rattle.run_events_results.specs.declared.view.FinishedTest.{FinishedTest}
+use Rattle.run_events_results.specs.declared.view.TestView as declared
+
+-- the parts of a finished test that decide its counters and its levels
+pub record TestView : Type 0 where
+  -- the result of the last attempt
+  pub result : ExecutionResultDescription
+  -- the number of attempts
+  pub attempts : ℕ
+  -- whether the last attempt was slow
+  pub is_slow : Bool
+  -- how the test counts if it is flaky
+  pub flaky_result : FlakyResult
+
+-- the parts in a borrowed view
+abbrev pub said_of : declared.TestView → TestView
+said_of v = record { result = v.result.now; attempts = v.attempts; is_slow = v.is_slow; flaky_result = v.flaky_result }
+
+-- the parts of a finished test
+abbrev pub finished_view : FinishedTest → TestView
+finished_view t = record { result = t.result; attempts = t.attempts; is_slow = t.is_slow; flaky_result = t.flaky_result }

@@ -1,0 +1,176 @@
+//! What a reporter shows of a finished test.
+
+ghost use Rattle.std.specs.Prelude.{◌≡◌, ◌≢◌, ◌≤◌, ◌==◌, ◌&&◌, IsTrue, Option, Some, false, true, if◌then◌else◌};
+ghost use Rattle.run_events_results.specs.Config.{is_final_display, is_immediate_display};
+ghost use Rattle.run_events_results.specs.Visibility.{IsException, IsNoMoreVisible, is_stored, severity, visibility, asked_of};
+ghost use Rattle.run_events_results.specs.Results.{is_termination_failure};
+
+use crate::config::TestOutputDisplay;
+use crate::levels::{
+    FinalStatusLevel, OutputOnTestFinished, OutputStoreFinal, StatusLevel, StatusLevels,
+};
+use crate::results::{CancelReason, ExecutionResultDescription};
+
+impl StatusLevels {
+    /// Returns what a reporter shows of a test when it finishes, and what it stores for the end of
+    /// the run.
+    ///
+    /// `display` is the reporter's setting for tests that succeeded if the last attempt succeeded, even
+    /// of a flaky test that counts as failed, and otherwise its setting for failed tests. The defaults
+    /// of nextest are `Never` and `Immediate`.
+    ///
+    /// The reporter writes a line if its status level is at least that of the test. It displays the
+    /// output at once if `display` is immediate. It stores the test if `display` is final or its
+    /// final level is at least that of the test, and then displays the output at the end if
+    /// `display` is final. With a reason to cancel the run, it shows and stores less:
+    ///
+    /// - [`CancelReason::TestFailureImmediate`]: nothing of a test that was ended by `SIGTERM` or
+    ///   with the Windows job object, which is how the runner ends a test;
+    /// - [`CancelReason::Signal`]: output that was displayed at once is not displayed again at the
+    ///   end;
+    /// - [`CancelReason::Interrupt`] and [`CancelReason::SecondSignal`]: nothing of any test.
+    ///
+    /// The line does not depend on the reason.
+    ///
+    /// With a greater reason the reporter shows and stores no more than with a lesser one. The one
+    /// exception is a test that the runner seems to have ended: it is hidden with
+    /// `TestFailureImmediate`, but not with `GlobalTimeout` or `Signal`.
+    pub fn compute_output_on_test_finished(
+        &self,
+        display: TestOutputDisplay,
+        cancel_status: Option<CancelReason>,
+        test_status_level: StatusLevel,
+        test_final_status_level: FinalStatusLevel,
+        execution_result: &ExecutionResultDescription,
+    ) -> OutputOnTestFinished
+        ensures exact { let asked = asked_of self.now display test_status_level
+            test_final_status_level execution_result.now in
+            result ≡ visibility asked cancel_status }
+
+        // With each lesser reason no less is shown, except for the exception.
+        ensures never_grows { let asked = asked_of self.now display test_status_level
+            test_final_status_level execution_result.now in
+            (lesser : Option CancelReason) → severity lesser ≤ severity cancel_status
+            → ¬ (IsException asked lesser cancel_status)
+            → IsNoMoreVisible result (visibility asked lesser) }
+        ensures exception { let asked = asked_of self.now display test_status_level
+            test_final_status_level execution_result.now in
+            (lesser : Option CancelReason) → IsException asked lesser cancel_status
+            → ¬ (IsNoMoreVisible result (visibility asked lesser)) }
+
+        // The line is written with every reason or with none.
+        ensures line { let asked = asked_of self.now display test_status_level
+            test_final_status_level execution_result.now in
+            (other : Option CancelReason) → (visibility asked other).write_status_line
+            ≡ result.write_status_line }
+
+        // With a signal or a greater reason, output is never displayed twice.
+        ensures never_twice { severity (Some CancelReason.Signal) ≤ severity cancel_status
+            → IsTrue result.show_immediate → result.store_final ≢ OutputStoreFinal.Yes true }
+    {
+        self.output_of(
+            display,
+            cancel_status,
+            test_status_level,
+            test_final_status_level,
+            execution_result,
+        )
+    }
+
+    /// Returns what a reporter shows and stores, by the cases of the reason.
+    fn output_of(
+        &self,
+        display: TestOutputDisplay,
+        cancel_status: Option<CancelReason>,
+        test_status_level: StatusLevel,
+        test_final_status_level: FinalStatusLevel,
+        execution_result: &ExecutionResultDescription,
+    ) -> OutputOnTestFinished
+        // The laws of `compute_output_on_test_finished` are proved from this clause.
+        ensures { let asked = asked_of self.now display test_status_level test_final_status_level
+            execution_result.now in
+            result ≡ visibility asked cancel_status }
+    {
+        let write_status_line = self.status_level >= test_status_level;
+        let is_stored = self.is_stored(display, test_final_status_level);
+        if is_stopped(cancel_status, execution_result) {
+            return hidden(write_status_line);
+        }
+        match cancel_status {
+            Some(CancelReason::Interrupt | CancelReason::SecondSignal) => hidden(write_status_line),
+            Some(CancelReason::Signal) => OutputOnTestFinished {
+                write_status_line,
+                show_immediate: display.is_immediate(),
+                store_final: stored(is_stored, is_only_final(display)),
+            },
+            None
+            | Some(
+                CancelReason::SetupScriptFailure
+                | CancelReason::TestFailure
+                | CancelReason::ReportError
+                | CancelReason::OutputLimit
+                | CancelReason::TestFailureImmediate
+                | CancelReason::GlobalTimeout,
+            ) => OutputOnTestFinished {
+                write_status_line,
+                show_immediate: display.is_immediate(),
+                store_final: stored(is_stored, display.is_final()),
+            },
+        }
+    }
+
+    /// Returns true if a test of this level is listed at the end of the run.
+    fn is_stored(&self, display: TestOutputDisplay, test_level: FinalStatusLevel) -> bool
+        ensures { result ≡ is_stored self.now display test_level }
+    {
+        display.is_final() || self.final_status_level >= test_level
+    }
+}
+
+/// Returns no output, and the line if `write_status_line`.
+fn hidden(write_status_line: bool) -> OutputOnTestFinished
+    ensures { result ≡ record {
+      write_status_line = write_status_line;
+      show_immediate = false;
+      store_final = OutputStoreFinal.No;
+    } }
+{
+    OutputOnTestFinished {
+        write_status_line,
+        show_immediate: false,
+        store_final: OutputStoreFinal::No,
+    }
+}
+
+/// Returns what is stored of a test.
+fn stored(is_stored: bool, display_output: bool) -> OutputStoreFinal
+    ensures { result ≡ (if is_stored then OutputStoreFinal.Yes display_output
+        else OutputStoreFinal.No) }
+{
+    if is_stored {
+        OutputStoreFinal::Yes { display_output }
+    } else {
+        OutputStoreFinal::No
+    }
+}
+
+/// Returns true if output is displayed only at the end of the run.
+fn is_only_final(display: TestOutputDisplay) -> bool
+    ensures { result ≡ (if is_immediate_display display then false else is_final_display display) }
+{
+    matches!(display, TestOutputDisplay::Final)
+}
+
+/// Returns true if the runner ended the test because the run stops at once after a failure.
+fn is_stopped(
+    cancel_status: Option<CancelReason>,
+    execution_result: &ExecutionResultDescription,
+) -> bool
+    ensures { result ≡ ((severity cancel_status == severity (Some CancelReason.TestFailureImmediate))
+        && is_termination_failure execution_result.now) }
+{
+    match cancel_status {
+        Some(CancelReason::TestFailureImmediate) => execution_result.is_termination_failure(),
+        _ => false,
+    }
+}

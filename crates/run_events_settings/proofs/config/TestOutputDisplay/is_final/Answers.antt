@@ -1,5 +1,0 @@
-use Rattle.std.proofs.Common.{rules}
-use Rattle.run_events_settings.proofs.config.TestOutputDisplay.is_final.Goals as goal
-
-pub returns-in-Immediate : goal.returns-in-Immediate
-returns-in-Immediate c = search rules

@@ -1,2 +1,0 @@
-pub mod Config
-pub mod Stress

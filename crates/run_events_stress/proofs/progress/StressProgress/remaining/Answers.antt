@@ -1,5 +1,0 @@
-use Rattle.std.proofs.Common.{rules}
-use Rattle.run_events_stress.proofs.progress.StressProgress.remaining.Goals as goal
-
-pub returns-in-Time : goal.returns-in-Time
-returns-in-Time c = search rules

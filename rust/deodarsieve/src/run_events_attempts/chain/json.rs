@@ -1,0 +1,105 @@
+// Made by tools/erase from crates/run_events_attempts/src/chain/json.rt. Do not edit.
+//! Errors with their causes as JSON values.
+
+use crate::run_events_attempts::chain::SerializableError;
+use alloc::string::String;
+use alloc::vec::Vec;
+use serde_json::{Map, Value};
+
+/// Why a JSON value is not an error with its causes.
+#[derive(Clone, Copy, Debug, PartialEq, Eq)]
+#[non_exhaustive]
+pub enum FromValueError {
+    /// The value is not an object.
+    NotAnObject,
+
+    /// The object has no member `message`.
+    MessageMissing,
+
+    /// The member `message` is not a text.
+    MessageNotText,
+
+    /// The member `causes` is not a list. `null` is not a list either.
+    CausesNotAList,
+
+    /// A cause is not a text.
+    CauseNotText {
+        /// The position of the first such cause, counted from 0.
+        index: usize,
+    },
+}
+
+impl SerializableError {
+    /// Returns the error as an object with two members: `message`, a text, and `causes`, a list of
+    /// texts with the nearest cause first. The list is present even if it is empty.
+    #[must_use]
+    pub fn to_value(&self) -> Value {
+        let mut causes = Vec::new();
+        for cause in self.sources() {
+            causes.push(Value::from(cause.message()));
+        }
+        let message = Value::from(self.message());
+        let mut members = Map::new();
+        members.insert(String::from("message"), message);
+        members.insert(String::from("causes"), Value::Array(causes));
+        Value::Object(members)
+    }
+
+    /// Reads an error from an object with a text `message` and a list of texts `causes`. If `causes`
+    /// is missing, the error has no cause. Other members are ignored.
+    ///
+    /// # Errors
+    ///
+    /// If several errors of [`FromValueError`] apply, returns the one that is declared first. A value
+    /// from [`Self::to_value`] is read as an equal error.
+    pub fn from_value(value: &Value) -> Result<Self, FromValueError> {
+        let message = message_of(value)?;
+        let causes = causes_of(value.get("causes"))?;
+        Ok(error_of(message, causes))
+    }
+}
+
+/// Returns the message of a value.
+fn message_of(value: &Value) -> Result<&str, FromValueError> {
+    if !value.is_object() {
+        return Err(FromValueError::NotAnObject);
+    }
+    match value.get("message") {
+        None => Err(FromValueError::MessageMissing),
+        Some(member) => member.as_str().ok_or(FromValueError::MessageNotText),
+    }
+}
+
+/// Returns the causes in a member of a value, which are none if it is missing.
+fn causes_of(member: Option<&Value>) -> Result<&[Value], FromValueError> {
+    match member {
+        None => Ok(&[]),
+        Some(member) => match member.as_array() {
+            None => Err(FromValueError::CausesNotAList),
+            Some(items) => all_texts(items.as_slice()),
+        },
+    }
+}
+
+/// Returns the values if all of them are texts.
+fn all_texts(items: &[Value]) -> Result<&[Value], FromValueError> {
+    match first_no_text(items) {
+        None => Ok(items),
+        Some(index) => Err(FromValueError::CauseNotText { index }),
+    }
+}
+
+/// Returns the position of the first value that is not a text.
+fn first_no_text(items: &[Value]) -> Option<usize> {
+    items.iter().position(|item| !item.is_string())
+}
+
+/// Returns the error with this message and these causes, which are all texts.
+fn error_of(message: &str, causes: &[Value]) -> SerializableError {
+    let mut texts = Vec::with_capacity(causes.len());
+    for cause in causes {
+        // Every cause is a text here, so `unwrap_or` never takes its default.
+        texts.push(String::from(cause.as_str().unwrap_or("")));
+    }
+    SerializableError::from_message_and_causes(String::from(message), texts)
+}

@@ -1,0 +1,186 @@
+// Made by tools/erase from crates/run_events_attempts/src/child/errors.rt. Do not edit.
+//! The errors in starting a child process, reading from it or waiting for it.
+
+use crate::run_events_attempts::chain::SerializableError;
+use core::fmt;
+
+/// Why a child process was not started, as the runner gets it.
+#[derive(Clone, Debug, PartialEq, Eq)]
+pub enum ChildStartError {
+    /// No temporary path could be made for a setup script.
+    TempPath(SerializableError),
+
+    /// The process could not be spawned.
+    Spawn(SerializableError),
+}
+
+/// An error in reading from a child process or waiting for it, as the runner gets it.
+#[derive(Clone, Debug, PartialEq, Eq)]
+pub enum ChildFdError {
+    /// The standard output could not be read.
+    ReadStdout(SerializableError),
+
+    /// The standard error could not be read.
+    ReadStderr(SerializableError),
+
+    /// The combined output could not be read.
+    ReadCombined(SerializableError),
+
+    /// The runner could not wait for the process.
+    Wait(SerializableError),
+}
+
+/// An error with a child process that was started, as the runner gets it.
+#[derive(Clone, Debug, PartialEq, Eq)]
+pub enum ChildError {
+    /// The runner could not read from the process or wait for it.
+    Fd(ChildFdError),
+
+    /// The output file of a setup script could not be read.
+    SetupScriptOutput(SerializableError),
+}
+
+/// Why a child process was not started. It is displayed without its cause.
+#[derive(Clone, Debug, PartialEq, Eq)]
+#[cfg_attr(
+    feature = "serde",
+    derive(serde::Serialize, serde::Deserialize),
+    serde(tag = "kind", rename_all = "kebab-case")
+)]
+pub enum ChildStartErrorDescription {
+    /// No temporary path could be made for a setup script.
+    TempPath {
+        /// The cause of the error.
+        source: SerializableError,
+    },
+
+    /// The process could not be spawned.
+    Spawn {
+        /// The cause of the error.
+        source: SerializableError,
+    },
+}
+
+impl ChildStartErrorDescription {
+    /// Returns the cause of the error, with its own causes.
+    #[must_use]
+    pub fn cause(&self) -> &SerializableError {
+        match self {
+            ChildStartErrorDescription::TempPath { source }
+            | ChildStartErrorDescription::Spawn { source } => source,
+        }
+    }
+}
+
+impl fmt::Display for ChildStartErrorDescription {
+    fn fmt(&self, f: &mut fmt::Formatter<'_>) -> fmt::Result {
+        match self {
+            ChildStartErrorDescription::TempPath { .. } => {
+                f.write_str("error creating temporary path for setup script")
+            }
+            ChildStartErrorDescription::Spawn { .. } => f.write_str("error spawning child process"),
+        }
+    }
+}
+
+impl From<ChildStartError> for ChildStartErrorDescription {
+    fn from(error: ChildStartError) -> ChildStartErrorDescription {
+        match error {
+            ChildStartError::TempPath(source) => ChildStartErrorDescription::TempPath { source },
+            ChildStartError::Spawn(source) => ChildStartErrorDescription::Spawn { source },
+        }
+    }
+}
+
+/// An error with a child process that was started. It is displayed without its cause.
+#[derive(Clone, Debug, PartialEq, Eq)]
+#[cfg_attr(
+    feature = "serde",
+    derive(serde::Serialize, serde::Deserialize),
+    serde(tag = "kind", rename_all = "kebab-case")
+)]
+pub enum ChildErrorDescription {
+    /// The standard output could not be read.
+    ReadStdout {
+        /// The cause of the error.
+        source: SerializableError,
+    },
+
+    /// The standard error could not be read.
+    ReadStderr {
+        /// The cause of the error.
+        source: SerializableError,
+    },
+
+    /// The combined output could not be read.
+    ReadCombined {
+        /// The cause of the error.
+        source: SerializableError,
+    },
+
+    /// The runner could not wait for the process.
+    Wait {
+        /// The cause of the error.
+        source: SerializableError,
+    },
+
+    /// The output file of a setup script could not be read.
+    SetupScriptOutput {
+        /// The cause of the error.
+        source: SerializableError,
+    },
+}
+
+impl ChildErrorDescription {
+    /// Returns the cause of the error, with its own causes.
+    #[must_use]
+    pub fn cause(&self) -> &SerializableError {
+        match self {
+            ChildErrorDescription::ReadStdout { source }
+            | ChildErrorDescription::ReadStderr { source }
+            | ChildErrorDescription::ReadCombined { source }
+            | ChildErrorDescription::Wait { source }
+            | ChildErrorDescription::SetupScriptOutput { source } => source,
+        }
+    }
+}
+
+impl fmt::Display for ChildErrorDescription {
+    fn fmt(&self, f: &mut fmt::Formatter<'_>) -> fmt::Result {
+        match self {
+            ChildErrorDescription::ReadStdout { .. } => {
+                f.write_str("error reading standard output")
+            }
+            ChildErrorDescription::ReadStderr { .. } => f.write_str("error reading standard error"),
+            ChildErrorDescription::ReadCombined { .. } => {
+                f.write_str("error reading combined stream")
+            }
+            ChildErrorDescription::Wait { .. } => {
+                f.write_str("error waiting for child process to exit")
+            }
+            ChildErrorDescription::SetupScriptOutput { .. } => {
+                f.write_str("error reading setup script output")
+            }
+        }
+    }
+}
+
+impl From<ChildError> for ChildErrorDescription {
+    fn from(error: ChildError) -> ChildErrorDescription {
+        match error {
+            ChildError::Fd(ChildFdError::ReadStdout(source)) => {
+                ChildErrorDescription::ReadStdout { source }
+            }
+            ChildError::Fd(ChildFdError::ReadStderr(source)) => {
+                ChildErrorDescription::ReadStderr { source }
+            }
+            ChildError::Fd(ChildFdError::ReadCombined(source)) => {
+                ChildErrorDescription::ReadCombined { source }
+            }
+            ChildError::Fd(ChildFdError::Wait(source)) => ChildErrorDescription::Wait { source },
+            ChildError::SetupScriptOutput(source) => {
+                ChildErrorDescription::SetupScriptOutput { source }
+            }
+        }
+    }
+}

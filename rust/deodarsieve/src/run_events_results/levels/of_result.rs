@@ -1,0 +1,66 @@
+// Made by tools/erase from crates/run_events_results/src/levels/of_result.rt. Do not edit.
+//! The levels of results.
+
+use crate::run_events_results::config::{FlakyResult, LeakTimeoutResult, SlowTimeoutResult};
+use crate::run_events_results::levels::{FinalStatusLevel, StatusLevel};
+use crate::run_events_results::results::ExecutionResultDescription;
+
+impl StatusLevel {
+    /// Returns the level of a test that succeeded at its first attempt: `Pass`, `Leak` for a leak that
+    /// counts as passed, or `Slow` for a timeout that counts as passed. Returns `None` if the result is
+    /// not a success.
+    #[must_use]
+    pub fn of_success(attempt: &ExecutionResultDescription) -> Option<StatusLevel> {
+        match attempt {
+            ExecutionResultDescription::Pass => Some(StatusLevel::Pass),
+            ExecutionResultDescription::Leak {
+                result: LeakTimeoutResult::Pass,
+            } => Some(StatusLevel::Leak),
+            ExecutionResultDescription::Timeout {
+                result: SlowTimeoutResult::Pass,
+            } => Some(StatusLevel::Slow),
+            _ => None,
+        }
+    }
+
+    /// Returns the level of a flaky test.
+    #[must_use]
+    pub fn of_flaky(flaky_result: FlakyResult) -> StatusLevel {
+        match flaky_result {
+            FlakyResult::Pass => StatusLevel::Retry,
+            FlakyResult::Fail => StatusLevel::Fail,
+        }
+    }
+}
+
+impl FinalStatusLevel {
+    /// Returns the level at the end of the run of a test that succeeded at its first attempt: `Slow` if
+    /// the attempt was slow, whatever its result. Returns `None` if it was not slow and the result is
+    /// not a success.
+    #[must_use]
+    pub fn of_success(
+        attempt: &ExecutionResultDescription,
+        is_slow: bool,
+    ) -> Option<FinalStatusLevel> {
+        match attempt {
+            _ if is_slow => Some(FinalStatusLevel::Slow),
+            ExecutionResultDescription::Pass => Some(FinalStatusLevel::Pass),
+            ExecutionResultDescription::Leak {
+                result: LeakTimeoutResult::Pass,
+            } => Some(FinalStatusLevel::Leak),
+            ExecutionResultDescription::Timeout {
+                result: SlowTimeoutResult::Pass,
+            } => Some(FinalStatusLevel::Slow),
+            _ => None,
+        }
+    }
+
+    /// Returns the level of a flaky test at the end of the run.
+    #[must_use]
+    pub fn of_flaky(flaky_result: FlakyResult) -> FinalStatusLevel {
+        match flaky_result {
+            FlakyResult::Pass => FinalStatusLevel::Flaky,
+            FlakyResult::Fail => FinalStatusLevel::Fail,
+        }
+    }
+}

@@ -1,0 +1,84 @@
+// Made by tools/erase from crates/run_events_results/src/view.rt. Do not edit.
+//! The view of a finished test that decides its counters and its levels.
+
+use crate::run_events_results::config::FlakyResult;
+use crate::run_events_results::levels::{FinalStatusLevel, StatusLevel};
+use crate::run_events_results::results::ExecutionResultDescription;
+
+/// The parts of a finished test that decide its counters and its levels, borrowed from its
+/// attempts. A caller that does not keep attempts can make it from these parts.
+#[derive(Clone, Copy, Debug, PartialEq, Eq)]
+#[non_exhaustive]
+pub struct TestView<'a> {
+    /// The result of the last attempt.
+    pub result: &'a ExecutionResultDescription,
+
+    /// The number of attempts. 0 counts as 1.
+    pub attempts: usize,
+
+    /// True if the last attempt took longer than the slow timeout.
+    pub is_slow: bool,
+
+    /// How the test counts if it is flaky, that is if its last attempt succeeded and is not its
+    /// first.
+    pub flaky_result: FlakyResult,
+}
+
+impl TestView<'_> {
+    /// Returns the level of the test when it finishes: `Retry` or `Fail` for a flaky test, `Fail` for
+    /// a failed one, and for a success at the first attempt the level that [`StatusLevel::of_success`]
+    /// returns.
+    #[must_use]
+    pub fn status_level(&self) -> StatusLevel {
+        if !self.result.is_success() {
+            return StatusLevel::Fail;
+        }
+        if self.attempts > 1 {
+            return StatusLevel::of_flaky(self.flaky_result);
+        }
+        StatusLevel::of_success(self.result).unwrap_or(StatusLevel::Fail)
+    }
+
+    /// Returns the level of the test at the end of the run. It is like the status level, except that
+    /// a flaky test which counts as passed is `Flaky`, and that a slow success at the first attempt
+    /// is `Slow` whatever its result.
+    #[must_use]
+    pub fn final_status_level(&self) -> FinalStatusLevel {
+        if !self.result.is_success() {
+            return FinalStatusLevel::Fail;
+        }
+        if self.attempts > 1 {
+            return FinalStatusLevel::of_flaky(self.flaky_result);
+        }
+        FinalStatusLevel::of_success(self.result, self.is_slow).unwrap_or(FinalStatusLevel::Fail)
+    }
+}
+
+/// A finished test by the parts that decide its counters and its levels.
+#[derive(Clone, Debug, PartialEq, Eq)]
+pub struct FinishedTest {
+    /// The result of the last attempt.
+    pub result: ExecutionResultDescription,
+
+    /// The number of attempts. 0 counts as 1.
+    pub attempts: usize,
+
+    /// True if the last attempt took longer than the slow timeout.
+    pub is_slow: bool,
+
+    /// How the test counts if it is flaky.
+    pub flaky_result: FlakyResult,
+}
+
+impl FinishedTest {
+    /// Returns a view of the test.
+    #[must_use]
+    pub fn view(&self) -> TestView<'_> {
+        TestView {
+            result: &self.result,
+            attempts: self.attempts,
+            is_slow: self.is_slow,
+            flaky_result: self.flaky_result,
+        }
+    }
+}
