@@ -21,6 +21,12 @@ const BLOCK_SIZE: usize = 131_072;
 /// faster than `find` of `bstr`, which builds a searcher at each call.
 const SHORT_BLOCK_SIZE: usize = 2_048;
 
+/// The misses that a search by a rare byte may always have: rare bytes that are in no marker.
+const FREE_MISSES: usize = 8;
+
+/// The bytes that the search must pass for each further miss. With more misses `find` is faster.
+const BYTES_PER_MISS: usize = 32;
+
 /// A marker, or another text that is searched for, with the offset in it of a byte that is rare in
 /// output.
 #[derive(Clone, Copy)]
@@ -95,19 +101,14 @@ pub(crate) fn last_sign(bytes: &[u8], sign: Sign) -> Option<usize>
 }
 
 /// Returns the last offset of `sign` in a block.
-///
-/// A long block is searched forwards, since a forward search of `bstr` is faster.
 fn last_match(block: &[u8], sign: Sign) -> Option<usize>
     ensures { FindsLastNeedle block.now sign.text.now result }
 {
     if block.len() <= SHORT_BLOCK_SIZE {
-        return last_by_rare_byte(block, sign);
+        last_by_rare_byte(block, sign)
+    } else {
+        last_by_find(block, sign)
     }
-    let mut last = block.find(sign.text)?;
-    while let Some(gap) = (&block[last + 1..]).find(sign.text) {
-        last += gap + 1;
-    }
-    Some(last)
 }
 
 /// Returns the first offset of `sign` in a block.
@@ -121,32 +122,64 @@ fn first_match(block: &[u8], sign: Sign) -> Option<usize>
     }
 }
 
+/// Returns the last offset of `sign`. The search goes forwards, since a forward search of `bstr` is
+/// faster.
+fn last_by_find(bytes: &[u8], sign: Sign) -> Option<usize>
+    ensures { FindsLastNeedle bytes.now sign.text.now result }
+{
+    let mut last = bytes.find(sign.text)?;
+    while let Some(gap) = (&bytes[last + 1..]).find(sign.text) {
+        last += gap + 1;
+    }
+    Some(last)
+}
+
 /// Returns the last offset of `sign`. The search goes from the end, from one rare byte to the next.
+/// After too many misses it continues with `find`.
 fn last_by_rare_byte(bytes: &[u8], sign: Sign) -> Option<usize>
     ensures { FindsLastNeedle bytes.now sign.text.now result }
 {
     let mut end = bytes.len();
+    let mut misses = 0;
     while let Some(at) = last_byte(bytes, sign.text[sign.rare], end) {
         if let Some(start) = sign_around(bytes, sign, at) {
             return Some(start);
         }
         end = at;
+        misses += 1;
+        if are_too_many(misses, bytes.len() - end) {
+            return last_by_find(&bytes[..reach(bytes, sign, end)], sign);
+        }
     }
     None
 }
 
-/// Returns the first offset of `sign`. The search goes from one rare byte to the next.
+/// Returns the first offset of `sign`. The search goes from one rare byte to the next. After too many
+/// misses it continues with `find`.
 fn first_by_rare_byte(bytes: &[u8], sign: Sign) -> Option<usize>
     ensures { FindsNeedle bytes.now sign.text.now 0 result }
 {
     let mut from = 0;
+    let mut misses = 0;
     while let Some(at) = next_byte(bytes, sign.text[sign.rare], from) {
         if let Some(start) = sign_around(bytes, sign, at) {
             return Some(start);
         }
         from = at + 1;
+        misses += 1;
+        if are_too_many(misses, from) {
+            let rest = from.saturating_sub(sign.rare);
+            let gap = (&bytes[rest..]).find(sign.text)?;
+            return Some(rest + gap);
+        }
     }
     None
+}
+
+/// Returns true if a search by a rare byte with so many misses in the bytes that it passed is slower
+/// than `find`.
+fn are_too_many(misses: usize, passed: usize) -> bool {
+    misses > FREE_MISSES + passed / BYTES_PER_MISS
 }
 
 /// Returns the offset of the `sign` whose rare byte is at `at`, or `None` if there is none.
@@ -167,7 +200,7 @@ fn sign_around(bytes: &[u8], sign: Sign, at: usize) -> Option<usize>
 /// Returns the offsets at or after which no error and no note begins.
 ///
 /// The search goes from the end of both streams, a block of each at a time, to the first block that
-/// has a marker.
+/// has a marker. If an error is at the front of `stderr`, no search is needed.
 pub(crate) fn quiet_ends(stdout: &[u8], stderr: &[u8]) -> QuietEnds
     ensures { AreQuiet stdout.now stderr.now result.stdout result.stderr }
 {
@@ -175,6 +208,9 @@ pub(crate) fn quiet_ends(stdout: &[u8], stderr: &[u8]) -> QuietEnds
         stdout: stdout.len(),
         stderr: stderr.len(),
     };
+    if stderr.starts_with_str(&ERROR_SIGN.text[1..]) {
+        return ends;
+    }
     while ends.stdout.max(ends.stderr) > 0 {
         let starts = QuietEnds {
             stdout: ends.stdout.saturating_sub(BLOCK_SIZE),
