@@ -15,7 +15,7 @@ use Rattle.c_values.specs.declared.layout.FfiStressRemaining.{FfiStressRemaining
 use Rattle.c_values.specs.declared.layout.FfiTestView.{FfiTestView}
 use Rattle.output_slice.specs.Extraction.{Extract, error_slice, note_line, panic_slice}
 use Rattle.output_slice.specs.declared.panic_head.HeadSpan.{HeadSpan}
-use Rattle.run_events_results.specs.TestView.{TestView}
+use Rattle.run_events_results.specs.ViewedTest.{ViewedTest}
 use Rattle.run_events_results.specs.Visibility.{Asked, asked_of, visibility}
 use Rattle.run_events_results.specs.declared.levels.OutputOnTestFinished.{OutputOnTestFinished}
 use Rattle.run_events_results.specs.declared.levels.StatusLevels.{StatusLevels}
@@ -75,7 +75,7 @@ abbrev pub result_in : FfiResult → Option ExecutionResultDescription
 result_in r = slice_get (results r.number) r.kind
 
 -- the part of a finished test that decides its counters and its levels
-abbrev pub view_in : FfiTestView → Option TestView
+abbrev pub view_in : FfiTestView → Option ViewedTest
 view_in v = option_and_then (λ ended. option_map (λ setting. record {
   result = ended;
   attempts = v.attempts;

@@ -2,7 +2,7 @@
 
 ghost use Rattle.std.specs.Prelude.{◌≡◌, MatchOption, Some, option_map};
 ghost use Rattle.c_values.specs.Layout.{HasNoMore, IsStepAlone, final_in, kind_in, stats_in, view_in};
-ghost use Rattle.run_events_results.specs.TestView.{finished_view};
+ghost use Rattle.run_events_results.specs.ViewedTest.{finished_view};
 
 use crate::codes;
 use crate::layout::{FfiFinalStats, FfiRunStats, FfiTestView};

@@ -15,7 +15,7 @@ use Rattle.run_digest_engine.specs.Reader.{named, result_of, result_words, resul
 use Rattle.run_digest_engine.specs.Spelling.{ResultWord, result_named, word_of, ScriptLine, SpellsStart, SpellsUnit, TestLine, flag_words, unit_said}
 use Rattle.run_digest_engine.proofs.Exact.{Reads, reads-by, reads-put, reads_all, reads_only, none_spelled, reads-then, reads_one, result_found, table_reads, word_passes, chosen, word_is_plain}
 use Rattle.run_digest_engine.proofs.PlainWords.{Pass, cut_joined, is_letter, is_plain, join_passes, weaker_words, joined_is_text}
-use Rattle.run_events_results.specs.TestView.{TestView}
+use Rattle.run_events_results.specs.ViewedTest.{ViewedTest}
 use Rattle.run_events_results.specs.declared.config.FlakyResult.{FlakyResult}
 use Rattle.run_events_results.specs.declared.config.FlakyResult.TheVariants as setting
 use Rattle.run_events_stats.specs.Counters.{ScriptUnit, TestUnit, UnitView}
@@ -205,10 +205,10 @@ test_read : (words : List (List ℕ)) → Reads (λ t. Behind (UnitEntry (TestUn
 unfolding test_of_words
 test_read [] = λ t s. absurd (let none = s.5 in cc)
 test_read (list ∷ flags) =
-    let P : TestView → Type 0 = λ t. Behind (UnitEntry (TestUnit t)) (list ∷ flags) in
-    let view : Bool × FlakyResult → ExecutionResultDescription × ℕ → TestView = λ f r.
+    let P : ViewedTest → Type 0 = λ t. Behind (UnitEntry (TestUnit t)) (list ∷ flags) in
+    let view : Bool × FlakyResult → ExecutionResultDescription × ℕ → ViewedTest = λ f r.
     record { result = r.0; attempts = r.1; is_slow = f.0; flaky_result = f.1 } in
-    let is_view : (t : TestView) → (s : P t) → t ≡ view (s.2, setting_by s.3) (result_named s.1, length s.0 + 1) = λ t s. cc (s.6) in
+    let is_view : (t : ViewedTest) → (s : P t) → t ≡ view (s.2, setting_by s.3) (result_named s.1, length s.0 + 1) = λ t s. cc (s.6) in
     reads-then (SpellsFlags flags) P (λ f. option_and_then (λ r. Some (view f r)) (results_of list)) (flags_of flags) (flags_read flags)
     (λ t s. ((s.2, setting_by s.3), (s.2, s.3, cc (s.5), refl))) (λ f is_f only_f.
     reads-then (SpellsResults list) P (λ r. Some (view f r)) (results_of list) (results_read list)
@@ -237,7 +237,7 @@ unfolding entry_of_words
 words_inverse [] entry e = absurd cc
 words_inverse (kind ∷ words) entry e =
     let to_script : ExecutionResultDescription → EntryView = λ r. UnitEntry (ScriptUnit r) in
-    let to_test : TestView → EntryView = λ t. UnitEntry (TestUnit t) in
+    let to_test : ViewedTest → EntryView = λ t. UnitEntry (TestUnit t) in
     let start = option_map SubRunEntry (start_fields words) in
     let script = option_map to_script (script_of_words words) in
     let test = option_map to_test (test_of_words words) in

@@ -1,5 +1,5 @@
 -- The view of an entry that decides the counters.
-use Rattle.run_events_results.specs.TestView.{finished_view}
+use Rattle.run_events_results.specs.ViewedTest.{finished_view}
 use Rattle.run_events_stats.specs.Counters.{ScriptUnit, TestUnit}
 use Rattle.run_digest_engine.specs.Reader.{EntryView, SubRunEntry, UnitEntry}
 use Rattle.run_digest_engine.specs.declared.entry.Entry.{Entry}

@@ -5,7 +5,7 @@ use Rattle.std.specs.Prelude.{[], ◌∷◌, length, fold, map, Option, Some, No
 use Rattle.std.specs.Char.{is_ascii_digit}
 use Rattle.std.specs.List.{list_all, slice_split}
 use Rattle.std.specs.Str.{bytes_eq}
-use Rattle.run_events_results.specs.TestView.{TestView}
+use Rattle.run_events_results.specs.ViewedTest.{ViewedTest}
 use Rattle.run_events_stats.specs.Counters.{UnitView, ScriptUnit, TestUnit}
 use Rattle.run_events_results.specs.declared.config.FlakyResult.{FlakyResult}
 use Rattle.run_events_results.specs.declared.config.FlakyResult.TheVariants as setting
@@ -93,7 +93,7 @@ script_of_words (word ∷ []) = result_of word
 script_of_words _ = None
 
 -- the view of a test, from the words after `test`
-unfoldable pub test_of_words : List (List ℕ) → Option TestView
+unfoldable pub test_of_words : List (List ℕ) → Option ViewedTest
 test_of_words [] = None
 test_of_words (results ∷ flags) =
     flags_of flags >>= λ f. results_of results >>= λ r.

@@ -1,7 +1,7 @@
 //! The lines of finished units.
 
 ghost use Rattle.std.specs.Prelude.{◌≡◌, option_map};
-ghost use Rattle.run_events_results.specs.TestView.{finished_view};
+ghost use Rattle.run_events_results.specs.ViewedTest.{finished_view};
 ghost use Rattle.run_digest_engine.specs.Reader.{results_of, script_of_words, test_of_words};
 
 use crate::parts::Parts;

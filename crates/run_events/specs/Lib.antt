@@ -18,7 +18,7 @@ pub use Rattle.run_events_attempts.specs.Execution
 pub use Rattle.run_events_attempts.specs.ListedErrors
 pub use Rattle.run_events_results.specs.Level
 pub use Rattle.run_events_results.specs.LevelRanks
-pub use Rattle.run_events_results.specs.TestView
+pub use Rattle.run_events_results.specs.ViewedTest
 pub use Rattle.run_events_results.specs.Visibility
 pub use Rattle.run_events_results.specs.CancelReasons
 pub use Rattle.run_events_results.specs.Described

@@ -205,7 +205,7 @@ fn failed_test(kind: UnitKind, status: &Option<ExecutionResultDescription>) -> b
 {
     match (kind, status) {
         (UnitKind::Test, Some(status)) => !status.is_success(),
-        _ => false,
+        (UnitKind::Test, None) | (UnitKind::Script, _) => false,
     }
 }
 
@@ -222,7 +222,14 @@ fn abort_of(status: &ExecutionResultDescription) -> Option<UnitAbortDescription<
             description: abort,
             leaked: *leaked,
         }),
-        _ => None,
+        ExecutionResultDescription::Pass
+        | ExecutionResultDescription::Leak { .. }
+        | ExecutionResultDescription::Fail {
+            failure: FailureDescription::ExitCode { .. },
+            ..
+        }
+        | ExecutionResultDescription::ExecFail
+        | ExecutionResultDescription::Timeout { .. } => None,
     }
 }
 

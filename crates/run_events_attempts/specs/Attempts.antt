@@ -7,7 +7,7 @@ use Rattle.run_events_attempts.specs.declared.attempts.ExecuteStatus.{ExecuteSta
 use Rattle.run_events_attempts.specs.declared.attempts.RetryData.{RetryData}
 use Rattle.run_events_attempts.specs.declared.attempts.statuses.ExecutionStatuses.{ExecutionStatuses}
 use Rattle.run_events_attempts.specs.declared.attempts.statuses.ExecutionStatusesIter.{ExecutionStatusesIter}
-use Rattle.run_events_results.specs.TestView.{TestView}
+use Rattle.run_events_results.specs.ViewedTest.{ViewedTest}
 
 -- the attempts of a test, in order
 abbrev pub attempts_of : {S D : Type 0} → ExecutionStatuses S D → List (ExecuteStatus S D)
@@ -22,7 +22,7 @@ abbrev pub last_of : {A : Type 0} → List A → Option A
 last_of xs = slice_get xs (length xs - 1)
 
 -- The view of a test. A test always has a last attempt, so the default values are never used.
-abbrev pub view_of : {S D : Type 0} → ExecutionStatuses S D → TestView
+abbrev pub view_of : {S D : Type 0} → ExecutionStatuses S D → ViewedTest
 view_of t =
     let last = last_of (attempts_of t) in
     record {

@@ -1,6 +1,6 @@
 -- The status level and the final level of a finished test.
 use Rattle.std.specs.Prelude.{Bool, true, false, nat_lt, if◌then◌else◌, Option, Some, None}
-use Rattle.run_events_results.specs.TestView.{TestView}
+use Rattle.run_events_results.specs.ViewedTest.{ViewedTest}
 use Rattle.run_events_results.specs.Results.{succeeds}
 use Rattle.run_events_results.specs.declared.config.FlakyResult.{FlakyResult}
 use Rattle.run_events_results.specs.declared.config.FlakyResult.TheVariants as flaky
@@ -26,7 +26,7 @@ flaky_level flaky.Pass = level.Retry
 flaky_level flaky.Fail = level.Fail
 
 -- the level of a finished test
-abbrev pub level_of : TestView → Option StatusLevel
+abbrev pub level_of : ViewedTest → Option StatusLevel
 level_of t =
     if succeeds t.result
     then (if nat_lt 1 t.attempts then Some (flaky_level t.flaky_result) else success_level t.result)
@@ -43,11 +43,11 @@ is_level_retry (Some level.Retry) = true
 is_level_retry _ = false
 
 -- whether a test has the level `Fail`
-abbrev pub has_level_fail : TestView → Bool
+abbrev pub has_level_fail : ViewedTest → Bool
 has_level_fail t = is_level_fail (level_of t)
 
 -- whether a test has the level `Retry`
-abbrev pub has_level_retry : TestView → Bool
+abbrev pub has_level_retry : ViewedTest → Bool
 has_level_retry t = is_level_retry (level_of t)
 
 -- the final level of a success at the first attempt: a slow one is `Slow` whatever its result
@@ -64,7 +64,7 @@ final_flaky_level flaky.Pass = final.Flaky
 final_flaky_level flaky.Fail = final.Fail
 
 -- the final level of a finished test
-abbrev pub final_level_of : TestView → Option FinalStatusLevel
+abbrev pub final_level_of : ViewedTest → Option FinalStatusLevel
 final_level_of t =
     if succeeds t.result
     then (if nat_lt 1 t.attempts then Some (final_flaky_level t.flaky_result) else final_success_level t.result t.is_slow)

@@ -5,6 +5,6 @@ pub mod Level
 pub mod LevelRanks
 pub mod Results
 pub mod Stress
-pub mod TestView
+pub mod ViewedTest
 pub mod Texts
 pub mod Visibility

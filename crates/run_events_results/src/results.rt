@@ -186,7 +186,14 @@ impl ExecutionResultDescription {
                 failure: FailureDescription::Abort { abort },
                 ..
             } => abort.is_termination(),
-            _ => false,
+            ExecutionResultDescription::ExecFail
+            | ExecutionResultDescription::Fail {
+                failure: FailureDescription::ExitCode { .. },
+                ..
+            }
+            | ExecutionResultDescription::Pass
+            | ExecutionResultDescription::Leak { .. }
+            | ExecutionResultDescription::Timeout { .. } => false,
         }
     }
 }

@@ -2,7 +2,7 @@
 
 ghost use Rattle.std.specs.Prelude.{◌≡◌, Some};
 ghost use Rattle.run_events_results.specs.Level.{final_level_of, level_of};
-ghost use Rattle.run_events_results.specs.TestView.{finished_view, said_of};
+ghost use Rattle.run_events_results.specs.ViewedTest.{finished_view, said_of};
 
 use crate::config::FlakyResult;
 use crate::levels::{FinalStatusLevel, StatusLevel};
@@ -33,13 +33,11 @@ impl TestView<'_> {
     pub fn status_level(&self) -> StatusLevel
         ensures { level_of (said_of self.now) ≡ Some result }
     {
-        if !self.result.is_success() {
-            return StatusLevel::Fail;
+        match StatusLevel::of_success(self.result) {
+            Some(_) if self.attempts > 1 => StatusLevel::of_flaky(self.flaky_result),
+            Some(level) => level,
+            None => StatusLevel::Fail,
         }
-        if self.attempts > 1 {
-            return StatusLevel::of_flaky(self.flaky_result);
-        }
-        StatusLevel::of_success(self.result).unwrap_or(StatusLevel::Fail)
     }
 
     /// Returns the level of the test at the end of the run. It is like the status level, except that
@@ -48,13 +46,14 @@ impl TestView<'_> {
     pub fn final_status_level(&self) -> FinalStatusLevel
         ensures { final_level_of (said_of self.now) ≡ Some result }
     {
-        if !self.result.is_success() {
-            return FinalStatusLevel::Fail;
+        let is_success = self.result.is_success();
+        match FinalStatusLevel::of_success(self.result, self.is_slow) {
+            Some(_) if is_success && self.attempts > 1 => {
+                FinalStatusLevel::of_flaky(self.flaky_result)
+            }
+            Some(level) if is_success => level,
+            Some(_) | None => FinalStatusLevel::Fail,
         }
-        if self.attempts > 1 {
-            return FinalStatusLevel::of_flaky(self.flaky_result);
-        }
-        FinalStatusLevel::of_success(self.result, self.is_slow).unwrap_or(FinalStatusLevel::Fail)
     }
 }
 

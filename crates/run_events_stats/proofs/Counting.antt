@@ -5,7 +5,7 @@ use Rattle.std.specs.List.{filter_map}
 use Rattle.std.proofs.lemmas.List.{append-nil, length-map, map_more}
 use Rattle.std.proofs.lemmas.List.Elements.{filter_map-append}
 use Rattle.run_events_stats.specs.Counters.{UnitView, ScriptUnit, TestUnit, unit_view, count_of, stats_of, with_test, with_script, TestCountersFit, ScriptCountersFit}
-use Rattle.run_events_results.specs.TestView.{TestView}
+use Rattle.run_events_results.specs.ViewedTest.{ViewedTest}
 use Rattle.run_events_results.specs.declared.results.ExecutionResultDescription.{ExecutionResultDescription}
 use Rattle.run_events_stats.specs.declared.stats.FinishedUnit.{FinishedUnit}
 use Rattle.run_events_stats.specs.declared.stats.RunStart.{RunStart}
@@ -13,7 +13,7 @@ use Rattle.run_events_stats.specs.declared.stats.RunStats.{RunStats}
 use Rattle.run_events_stats.proofs.Counts.{count_of-push, count_of-le, length-filter_map-le}
 
 -- one more unit at the end, which is a test
-pub stats_of-test : (us : List UnitView) (t : TestView) (start : RunStart) → stats_of (us ++ TestUnit t ∷ []) start ≡ with_test (stats_of us start) t
+pub stats_of-test : (us : List UnitView) (t : ViewedTest) (start : RunStart) → stats_of (us ++ TestUnit t ∷ []) start ≡ with_test (stats_of us start) t
 stats_of-test us t start = simp (filter_map-append, append-nil, length-append, count_of-push)
 
 -- one more unit at the end, which is a script

@@ -6,7 +6,7 @@ use Rattle.run_events_results.specs.Level.{flaky_level, has_level_fail, has_leve
 use Rattle.run_events_results.specs.Results.{succeeds, is_leak_fail, is_fail, is_exec_fail, is_timeout_fail, flaky_fails}
 use Rattle.run_events_stats.specs.RunLaws.{has_no_failure}
 use Rattle.run_events_stats.specs.Summary.{FailuresFit}
-use Rattle.run_events_results.specs.TestView.{TestView}
+use Rattle.run_events_results.specs.ViewedTest.{ViewedTest}
 use Rattle.run_events_results.specs.declared.config.FlakyResult.{FlakyResult}
 use Rattle.run_events_results.specs.declared.config.FlakyResult.TheVariants as flaky
 use Rattle.run_events_results.specs.declared.config.LeakTimeoutResult.TheVariants as leak
@@ -35,24 +35,24 @@ counted_by (result.Timeout slow.Pass) true flaky.Pass = (refl, refl, refl)
 counted_by _ _ _ = (refl, refl, refl)
 
 -- a test is counted in one of the three failure counters if and only if its level is `Fail`
-one_failure : (t : TestView) → one (is_failed t) + one (is_exec_failed t) + one (is_failed_timed_out t) ≡ one (has_level_fail t)
+one_failure : (t : ViewedTest) → one (is_failed t) + one (is_exec_failed t) + one (is_failed_timed_out t) ≡ one (has_level_fail t)
 one_failure t = (counted_by t.result (was_retried t) t.flaky_result).0
 
 -- the failure counters of tests count the tests of level `Fail`
-pub failed-level : (tests : List TestView)
+pub failed-level : (tests : List ViewedTest)
     → count_of is_failed tests + count_of is_exec_failed tests + count_of is_failed_timed_out tests ≡ count_of has_level_fail tests
 failed-level tests = count_of-three is_failed is_exec_failed is_failed_timed_out has_level_fail one_failure tests
 
 -- `passed` counts the tests whose level is not `Fail`
-pub passed-level : (tests : List TestView) → count_of is_passed tests ≡ count_of has_no_failure tests
+pub passed-level : (tests : List ViewedTest) → count_of is_passed tests ≡ count_of has_no_failure tests
 passed-level tests = count_of-same is_passed has_no_failure (λ t. (counted_by t.result (was_retried t) t.flaky_result).1) tests
 
 -- `flaky` counts the tests of level `Retry`
-pub flaky-level : (tests : List TestView) → count_of is_flaky tests ≡ count_of has_level_retry tests
+pub flaky-level : (tests : List ViewedTest) → count_of is_flaky tests ≡ count_of has_level_retry tests
 flaky-level tests = count_of-same is_flaky has_level_retry (λ t. (counted_by t.result (was_retried t) t.flaky_result).2) tests
 
 -- a finished test passed or failed
-pub tests-verdicts : (tests : List TestView)
+pub tests-verdicts : (tests : List ViewedTest)
     → count_of is_passed tests + (count_of is_failed tests + count_of is_exec_failed tests + count_of is_failed_timed_out tests) ≡ length tests
 tests-verdicts tests = omega (arith, failed-level tests, passed-level tests, count_of-not has_level_fail tests)
 

@@ -2,7 +2,7 @@
 use Rattle.std.specs.Prelude.{◌<◌, ◌^◌, ◌+◌, ℕ, Bool, not, ◌&&◌, ◌||◌, if◌then◌else◌, List, length, filter, nat_lt, Option, Some, None}
 use Rattle.std.specs.List.{filter_map}
 use Rattle.run_events_attempts.specs.Attempts.{view_of}
-use Rattle.run_events_results.specs.TestView.{TestView}
+use Rattle.run_events_results.specs.ViewedTest.{ViewedTest}
 use Rattle.run_events_results.specs.CancelReasons.{reason_rank}
 use Rattle.run_events_results.specs.Results.{succeeds, is_pass, is_leak_pass, is_leak_fail, is_fail, is_exec_fail, is_timeout_pass, is_timeout_fail, flaky_fails}
 use Rattle.run_events_results.specs.declared.results.CancelReason.{CancelReason}
@@ -13,51 +13,51 @@ use Rattle.run_events_stats.specs.declared.stats.RunStats.{RunStats}
 use Rattle.run_events_stats.specs.declared.stats.RunStart.{RunStart}
 
 -- there was an attempt before the last
-abbrev pub was_retried : TestView → Bool
+abbrev pub was_retried : ViewedTest → Bool
 was_retried t = nat_lt 1 t.attempts
 
 -- it succeeded after a retry, and its setting fails flaky tests
-abbrev pub fails_as_flaky : TestView → Bool
+abbrev pub fails_as_flaky : ViewedTest → Bool
 fails_as_flaky t = succeeds t.result && was_retried t && flaky_fails t.flaky_result
 
 -- `passed`: it succeeded, and is not a flaky test that counts as failed
-abbrev pub is_passed : TestView → Bool
+abbrev pub is_passed : ViewedTest → Bool
 is_passed t = succeeds t.result && not (was_retried t && flaky_fails t.flaky_result)
 
 -- `failed`: it is flaky and counts as failed, or it failed, or it leaked and that counts as failed
-abbrev pub is_failed : TestView → Bool
+abbrev pub is_failed : ViewedTest → Bool
 is_failed t = fails_as_flaky t || is_leak_fail t.result || is_fail t.result
 
 -- `exec_failed`: it could not be executed
-abbrev pub is_exec_failed : TestView → Bool
+abbrev pub is_exec_failed : ViewedTest → Bool
 is_exec_failed t = is_exec_fail t.result
 
 -- `failed_timed_out`: it ran out of time, and that counts as failed
-abbrev pub is_failed_timed_out : TestView → Bool
+abbrev pub is_failed_timed_out : ViewedTest → Bool
 is_failed_timed_out t = is_timeout_fail t.result
 
 -- `flaky`: it succeeded after a retry, and its setting passes flaky tests
-abbrev pub is_flaky : TestView → Bool
+abbrev pub is_flaky : ViewedTest → Bool
 is_flaky t = succeeds t.result && was_retried t && not (flaky_fails t.flaky_result)
 
 -- `leaky`: it leaked and that counts as passed, even if it is flaky and counts as failed
-abbrev pub is_leaky : TestView → Bool
+abbrev pub is_leaky : ViewedTest → Bool
 is_leaky t = is_leak_pass t.result
 
 -- `leaky_failed`: it leaked, and that counts as failed
-abbrev pub is_leaky_failed : TestView → Bool
+abbrev pub is_leaky_failed : ViewedTest → Bool
 is_leaky_failed t = is_leak_fail t.result
 
 -- `passed_slow`: it is counted in `passed`, is slow, and did not run out of time
-abbrev pub is_passed_slow : TestView → Bool
+abbrev pub is_passed_slow : ViewedTest → Bool
 is_passed_slow t = is_passed t && t.is_slow && (is_pass t.result || is_leak_pass t.result)
 
 -- `passed_timed_out`: it is counted in `passed`, and ran out of time
-abbrev pub is_passed_timed_out : TestView → Bool
+abbrev pub is_passed_timed_out : ViewedTest → Bool
 is_passed_timed_out t = is_passed t && is_timeout_pass t.result
 
 -- `failed_slow`: it is counted in `failed`, and is slow
-abbrev pub is_failed_slow : TestView → Bool
+abbrev pub is_failed_slow : ViewedTest → Bool
 is_failed_slow t = is_failed t && t.is_slow
 
 -- `setup_scripts_passed`: it passed, or leaked and that counts as passed
@@ -79,7 +79,7 @@ script_timed_out r = is_timeout_pass r || is_timeout_fail r
 -- the part of a finished unit that decides the counters: the result of a script, or the view of a test
 pub data UnitView : Type 0 where
   ScriptUnit : ExecutionResultDescription → UnitView
-  TestUnit : TestView → UnitView
+  TestUnit : ViewedTest → UnitView
 
 -- the view of a finished unit
 abbrev pub unit_view : FinishedUnit → UnitView
@@ -87,7 +87,7 @@ unit_view (Script s) = ScriptUnit s.now.result
 unit_view (Test t) = TestUnit (view_of t.now)
 
 -- the view of a test, if the unit is one
-abbrev pub test_of : UnitView → Option TestView
+abbrev pub test_of : UnitView → Option ViewedTest
 test_of (ScriptUnit r) = None
 test_of (TestUnit t) = Some t
 
@@ -97,7 +97,7 @@ script_of (ScriptUnit r) = Some r
 script_of (TestUnit t) = None
 
 -- the tests among finished units, in order
-abbrev pub tests_of : List UnitView → List TestView
+abbrev pub tests_of : List UnitView → List ViewedTest
 tests_of units = filter_map test_of units
 
 -- the results of the scripts among finished units, in order
@@ -109,7 +109,7 @@ abbrev pub count_of : {A : Type 0} → (A → Bool) → List A → ℕ
 count_of rule xs = length (filter rule xs)
 
 -- the statistics of a run with these finished tests and scripts
-abbrev pub counters_of : List TestView → List ExecutionResultDescription → RunStart → RunStats
+abbrev pub counters_of : List ViewedTest → List ExecutionResultDescription → RunStart → RunStats
 counters_of tests scripts start = record {
   initial_run_count = start.initial_run_count;
   finished_count = length tests;
@@ -171,7 +171,7 @@ abbrev pub plus_if : ℕ → Bool → ℕ
 plus_if n holds = n + (if holds then 1 else 0)
 
 -- the statistics after one more test, except `finished_count`: each counter whose rule holds for the test is raised by 1
-abbrev pub with_result : RunStats → TestView → RunStats
+abbrev pub with_result : RunStats → ViewedTest → RunStats
 with_result s t = record s {
   passed = plus_if s.passed (is_passed t);
   passed_slow = plus_if s.passed_slow (is_passed_slow t);
@@ -186,7 +186,7 @@ with_result s t = record s {
 }
 
 -- the statistics after one more test: `finished_count` and each counter whose rule holds for the test are raised by 1
-abbrev pub with_test : RunStats → TestView → RunStats
+abbrev pub with_test : RunStats → ViewedTest → RunStats
 with_test s t = record (with_result s t) {
   finished_count = s.finished_count + 1;
 }

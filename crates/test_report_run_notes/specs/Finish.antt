@@ -1,6 +1,6 @@
 -- How a test that finished counts.
 use Rattle.std.specs.Prelude.{ℕ, Bool, false, pos}
-use Rattle.run_events_results.specs.TestView.{TestView}
+use Rattle.run_events_results.specs.ViewedTest.{ViewedTest}
 use Rattle.run_events_results.specs.declared.results.ExecutionResultDescription.{ExecutionResultDescription}
 use Rattle.run_events_results.specs.declared.results.ExecutionResultDescription.TheVariants as described
 use Rattle.run_events_results.specs.declared.results.FailureDescription.TheVariants as failure
@@ -32,5 +32,5 @@ flaky_result_of Failed = flaky.Pass
 flaky_result_of TimedOut = flaky.Pass
 
 -- what decides the counters of a test that finished in this way, after this number of attempts, and whether it was slow
-abbrev pub view_of_finish : Finish → ℕ → Bool → TestView
+abbrev pub view_of_finish : Finish → ℕ → Bool → ViewedTest
 view_of_finish how attempts slow = record { result = result_of how; attempts = attempts; is_slow = slow; flaky_result = flaky_result_of how }

@@ -1,7 +1,7 @@
 //! How a test finished, as the statistics and levels of the layer take it.
 
 ghost use Rattle.std.specs.Prelude.{◌≡◌};
-ghost use Rattle.run_events_results.specs.TestView.{finished_view};
+ghost use Rattle.run_events_results.specs.ViewedTest.{finished_view};
 ghost use Rattle.test_report_run_notes.specs.Finish.{finish_for, result_of, view_of_finish};
 ghost use Rattle.test_report_run_notes.specs.Note.{kind_view};
 

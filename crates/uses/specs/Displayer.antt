@@ -7,7 +7,7 @@ use Rattle.run_events.specs.Level.{has_level_fail, has_level_retry}
 use Rattle.run_events.specs.LevelRanks.{level_rank}
 use Rattle.run_events.specs.Results.{result_word, succeeds}
 use Rattle.run_events.specs.RunLaws.{has_no_failure}
-use Rattle.run_events.specs.TestView.{TestView}
+use Rattle.run_events.specs.ViewedTest.{ViewedTest}
 use Rattle.run_events.specs.Visibility.{is_stored}
 use Rattle.run_events_results.specs.declared.config.TestOutputDisplay.{TestOutputDisplay}
 use Rattle.run_events_results.specs.declared.levels.FinalStatusLevel.{FinalStatusLevel}
@@ -37,11 +37,11 @@ without_output true (Yes output) = Yes false
 without_output _ stored = stored
 
 -- the word for a finished test: `flaky`, or the word for its last result
-abbrev pub test_word : TestView → List ℕ
+abbrev pub test_word : ViewedTest → List ℕ
 test_word t = if nat_lt 1 t.attempts && succeeds t.result then codes "flaky" else result_word t.result
 
 -- the line of a finished test of this name
-abbrev pub status_line : TestView → List ℕ → List ℕ
+abbrev pub status_line : ViewedTest → List ℕ → List ℕ
 status_line t name = test_word t ++ (codes " " ++ (name ++ codes "\n"))
 
 -- the summary line of a run, from its numbers

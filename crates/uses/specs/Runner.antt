@@ -3,7 +3,7 @@ use Rattle.std.specs.Prelude.{ℕ, Bool, List, Option, None, Some, option_and_th
 use Rattle.run_events.specs.Counters.{ScriptUnit, TestUnit, UnitView}
 use Rattle.run_events.specs.Described.{described_result}
 use Rattle.run_events.specs.Attempts.{attempts_of, last_of, view_of}
-use Rattle.run_events.specs.TestView.{TestView}
+use Rattle.run_events.specs.ViewedTest.{ViewedTest}
 use Rattle.run_events_attempts.specs.declared.attempts.RetryData.{RetryData}
 use Rattle.run_events_attempts.specs.declared.attempts.statuses.ExecutionStatuses.{ExecutionStatuses}
 use Rattle.run_events_attempts.specs.declared.child.ChildExecutionOutputDescription.{ChildExecutionOutputDescription}
@@ -22,7 +22,7 @@ use Rattle.run_events_results.specs.declared.results.ExecutionResult.{ExecutionR
 use Rattle.uses.specs.declared.of_run_events.EndedAttempt.{EndedAttempt}
 
 -- the view of a test with this many attempts, of which the last has this result
-abbrev pub view_of_attempts : ℕ → ExecutionResult → Bool → FlakyResult → TestView
+abbrev pub view_of_attempts : ℕ → ExecutionResult → Bool → FlakyResult → ViewedTest
 view_of_attempts attempts outcome slow setting =
     record { result = described_result outcome None; attempts = attempts; is_slow = slow; flaky_result = setting }
 

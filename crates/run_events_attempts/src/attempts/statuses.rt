@@ -27,7 +27,7 @@ impl<S: OutputSpec> ExecutionStatuses<S> {
     ghost use Rattle.run_events_attempts.specs.Description.{ComesTo, HasFinalLevel, IsConsistent, described_final_level, described_level, is_success_description};
     ghost use Rattle.run_events_results.specs.Level.{final_level_of, level_of};
     ghost use Rattle.run_events_results.specs.Results.{succeeds};
-    ghost use Rattle.run_events_results.specs.TestView.{said_of};
+    ghost use Rattle.run_events_results.specs.ViewedTest.{said_of};
 
     /// Returns a test with these attempts, in order.
     ///

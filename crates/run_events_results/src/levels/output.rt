@@ -169,8 +169,6 @@ fn is_stopped(
     ensures { result ≡ ((severity cancel_status == severity (Some CancelReason.TestFailureImmediate))
         && is_termination_failure execution_result.now) }
 {
-    match cancel_status {
-        Some(CancelReason::TestFailureImmediate) => execution_result.is_termination_failure(),
-        _ => false,
-    }
+    cancel_status == Some(CancelReason::TestFailureImmediate)
+        && execution_result.is_termination_failure()
 }

@@ -1,15 +1,15 @@
 //! The changes of the counters by a finished unit.
 
-ghost use Rattle.std.specs.Prelude.{◌≡◌, ◌↔◌, IsOk, IsTrue, OnErr, OnOk, false, true};
+ghost use Rattle.std.specs.Prelude.{◌≡◌, ◌↔◌, IsOk, IsTrue, OnErr, OnOk, true};
 ghost use Rattle.run_events_attempts.specs.Attempts.{view_of};
-ghost use Rattle.run_events_results.specs.TestView.{said_of};
+ghost use Rattle.run_events_results.specs.ViewedTest.{said_of};
 ghost use Rattle.run_events_results.specs.Results.{succeeds};
 ghost use Rattle.run_events_stats.specs.Counters.{ScriptCountersFit, TestCountersFit, with_failed, with_script, with_result, with_test};
 
 use crate::stats::{CounterFull, RunStats};
 use run_events_attempts::attempts::{ExecutionStatuses, SetupScriptExecuteStatus};
 use run_events_attempts::child::LiveSpec;
-use run_events_results::config::{FlakyResult, LeakTimeoutResult};
+use run_events_results::config::{FlakyResult, LeakTimeoutResult, SlowTimeoutResult};
 use run_events_results::results::ExecutionResultDescription;
 use run_events_results::view::TestView;
 
@@ -49,10 +49,25 @@ impl RunStats {
         ensures { self.new ≡ with_test self.old (said_of test.now) }
     {
         self.finished_count += 1;
-        if test.result.is_success() {
-            self.count_success(test);
-        } else {
-            self.count_failure(test);
+        match test.result {
+            ExecutionResultDescription::Pass
+            | ExecutionResultDescription::Leak {
+                result: LeakTimeoutResult::Pass,
+            }
+            | ExecutionResultDescription::Timeout {
+                result: SlowTimeoutResult::Pass,
+            } => self.count_success(test),
+            ExecutionResultDescription::Leak {
+                result: LeakTimeoutResult::Fail,
+            } => {
+                self.leaky_failed += 1;
+                self.raise_failed(test.is_slow);
+            }
+            ExecutionResultDescription::Fail { .. } => self.raise_failed(test.is_slow),
+            ExecutionResultDescription::ExecFail => self.exec_failed += 1,
+            ExecutionResultDescription::Timeout {
+                result: SlowTimeoutResult::Fail,
+            } => self.failed_timed_out += 1,
         }
     }
 
@@ -80,25 +95,6 @@ impl RunStats {
             self.passed_timed_out += 1;
         } else if test.is_slow {
             self.passed_slow += 1;
-        }
-    }
-
-    /// Raises the counters for a test whose last attempt did not succeed, except the number of
-    /// finished tests.
-    #[inline]
-    fn count_failure(&mut self, test: &TestView<'_>)
-        requires failure { succeeds (said_of test.now).result ≡ false }
-        requires room { TestCountersFit (with_result self.old (said_of test.now)) }
-        ensures { self.new ≡ with_result self.old (said_of test.now) }
-    {
-        match test.result {
-            ExecutionResultDescription::Timeout { .. } => self.failed_timed_out += 1,
-            ExecutionResultDescription::ExecFail => self.exec_failed += 1,
-            ExecutionResultDescription::Leak { .. } => {
-                self.leaky_failed += 1;
-                self.raise_failed(test.is_slow);
-            }
-            _ => self.raise_failed(test.is_slow),
         }
     }
 

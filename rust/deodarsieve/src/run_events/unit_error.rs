@@ -155,7 +155,7 @@ fn push_output_errors<'a>(
 fn failed_test(kind: UnitKind, status: &Option<ExecutionResultDescription>) -> bool {
     match (kind, status) {
         (UnitKind::Test, Some(status)) => !status.is_success(),
-        _ => false,
+        (UnitKind::Test, None) | (UnitKind::Script, _) => false,
     }
 }
 
@@ -169,7 +169,14 @@ fn abort_of(status: &ExecutionResultDescription) -> Option<UnitAbortDescription<
             description: abort,
             leaked: *leaked,
         }),
-        _ => None,
+        ExecutionResultDescription::Pass
+        | ExecutionResultDescription::Leak { .. }
+        | ExecutionResultDescription::Fail {
+            failure: FailureDescription::ExitCode { .. },
+            ..
+        }
+        | ExecutionResultDescription::ExecFail
+        | ExecutionResultDescription::Timeout { .. } => None,
     }
 }
 

@@ -30,13 +30,11 @@ impl TestView<'_> {
     /// returns.
     #[must_use]
     pub fn status_level(&self) -> StatusLevel {
-        if !self.result.is_success() {
-            return StatusLevel::Fail;
+        match StatusLevel::of_success(self.result) {
+            Some(_) if self.attempts > 1 => StatusLevel::of_flaky(self.flaky_result),
+            Some(level) => level,
+            None => StatusLevel::Fail,
         }
-        if self.attempts > 1 {
-            return StatusLevel::of_flaky(self.flaky_result);
-        }
-        StatusLevel::of_success(self.result).unwrap_or(StatusLevel::Fail)
     }
 
     /// Returns the level of the test at the end of the run. It is like the status level, except that
@@ -44,13 +42,14 @@ impl TestView<'_> {
     /// is `Slow` whatever its result.
     #[must_use]
     pub fn final_status_level(&self) -> FinalStatusLevel {
-        if !self.result.is_success() {
-            return FinalStatusLevel::Fail;
+        let is_success = self.result.is_success();
+        match FinalStatusLevel::of_success(self.result, self.is_slow) {
+            Some(_) if is_success && self.attempts > 1 => {
+                FinalStatusLevel::of_flaky(self.flaky_result)
+            }
+            Some(level) if is_success => level,
+            Some(_) | None => FinalStatusLevel::Fail,
         }
-        if self.attempts > 1 {
-            return FinalStatusLevel::of_flaky(self.flaky_result);
-        }
-        FinalStatusLevel::of_success(self.result, self.is_slow).unwrap_or(FinalStatusLevel::Fail)
     }
 }
 

@@ -1,6 +1,6 @@
 use Rattle.std.proofs.Common.{rules, ◌≡◌, Some, refl}
 use Rattle.c_values.specs.Layout.{test_counted}
-use Rattle.run_events_results.specs.TestView.{said_of}
+use Rattle.run_events_results.specs.ViewedTest.{said_of}
 use Rattle.run_events_stats.specs.Counters.{TestCountersFit, with_test}
 use Rattle.deodarsieve.proofs.counters.deodarsieve_run_stats_count_test.Goals as goal
 

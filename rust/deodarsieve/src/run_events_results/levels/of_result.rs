@@ -19,7 +19,14 @@ impl StatusLevel {
             ExecutionResultDescription::Timeout {
                 result: SlowTimeoutResult::Pass,
             } => Some(StatusLevel::Slow),
-            _ => None,
+            ExecutionResultDescription::Leak {
+                result: LeakTimeoutResult::Fail,
+            }
+            | ExecutionResultDescription::Timeout {
+                result: SlowTimeoutResult::Fail,
+            }
+            | ExecutionResultDescription::Fail { .. }
+            | ExecutionResultDescription::ExecFail => None,
         }
     }
 
@@ -51,7 +58,14 @@ impl FinalStatusLevel {
             ExecutionResultDescription::Timeout {
                 result: SlowTimeoutResult::Pass,
             } => Some(FinalStatusLevel::Slow),
-            _ => None,
+            ExecutionResultDescription::Leak {
+                result: LeakTimeoutResult::Fail,
+            }
+            | ExecutionResultDescription::Timeout {
+                result: SlowTimeoutResult::Fail,
+            }
+            | ExecutionResultDescription::Fail { .. }
+            | ExecutionResultDescription::ExecFail => None,
         }
     }
 

@@ -102,8 +102,6 @@ fn is_stopped(
     cancel_status: Option<CancelReason>,
     execution_result: &ExecutionResultDescription,
 ) -> bool {
-    match cancel_status {
-        Some(CancelReason::TestFailureImmediate) => execution_result.is_termination_failure(),
-        _ => false,
-    }
+    cancel_status == Some(CancelReason::TestFailureImmediate)
+        && execution_result.is_termination_failure()
 }

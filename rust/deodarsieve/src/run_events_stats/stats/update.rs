@@ -3,7 +3,7 @@
 
 use crate::run_events_attempts::attempts::{ExecutionStatuses, SetupScriptExecuteStatus};
 use crate::run_events_attempts::child::LiveSpec;
-use crate::run_events_results::config::{FlakyResult, LeakTimeoutResult};
+use crate::run_events_results::config::{FlakyResult, LeakTimeoutResult, SlowTimeoutResult};
 use crate::run_events_results::results::ExecutionResultDescription;
 use crate::run_events_results::view::TestView;
 use crate::run_events_stats::stats::{CounterFull, RunStats};
@@ -45,10 +45,25 @@ impl RunStats {
     #[inline]
     pub(super) fn raise_for_test(&mut self, test: &TestView<'_>) {
         self.finished_count += 1;
-        if test.result.is_success() {
-            self.count_success(test);
-        } else {
-            self.count_failure(test);
+        match test.result {
+            ExecutionResultDescription::Pass
+            | ExecutionResultDescription::Leak {
+                result: LeakTimeoutResult::Pass,
+            }
+            | ExecutionResultDescription::Timeout {
+                result: SlowTimeoutResult::Pass,
+            } => self.count_success(test),
+            ExecutionResultDescription::Leak {
+                result: LeakTimeoutResult::Fail,
+            } => {
+                self.leaky_failed += 1;
+                self.raise_failed(test.is_slow);
+            }
+            ExecutionResultDescription::Fail { .. } => self.raise_failed(test.is_slow),
+            ExecutionResultDescription::ExecFail => self.exec_failed += 1,
+            ExecutionResultDescription::Timeout {
+                result: SlowTimeoutResult::Fail,
+            } => self.failed_timed_out += 1,
         }
     }
 
@@ -72,21 +87,6 @@ impl RunStats {
             self.passed_timed_out += 1;
         } else if test.is_slow {
             self.passed_slow += 1;
-        }
-    }
-
-    /// Raises the counters for a test whose last attempt did not succeed, except the number of
-    /// finished tests.
-    #[inline]
-    fn count_failure(&mut self, test: &TestView<'_>) {
-        match test.result {
-            ExecutionResultDescription::Timeout { .. } => self.failed_timed_out += 1,
-            ExecutionResultDescription::ExecFail => self.exec_failed += 1,
-            ExecutionResultDescription::Leak { .. } => {
-                self.leaky_failed += 1;
-                self.raise_failed(test.is_slow);
-            }
-            _ => self.raise_failed(test.is_slow),
         }
     }
 

@@ -6,7 +6,7 @@ use Rattle.run_events_results.specs.declared.view.FinishedTest.{FinishedTest}
 use Rattle.run_events_results.specs.declared.view.TestView as declared
 
 -- the parts of a finished test that decide its counters and its levels
-pub record TestView : Type 0 where
+pub record ViewedTest : Type 0 where
   -- the result of the last attempt
   pub result : ExecutionResultDescription
   -- the number of attempts
@@ -17,9 +17,9 @@ pub record TestView : Type 0 where
   pub flaky_result : FlakyResult
 
 -- the parts in a borrowed view
-abbrev pub said_of : declared.TestView → TestView
+abbrev pub said_of : declared.TestView → ViewedTest
 said_of v = record { result = v.result.now; attempts = v.attempts; is_slow = v.is_slow; flaky_result = v.flaky_result }
 
 -- the parts of a finished test
-abbrev pub finished_view : FinishedTest → TestView
+abbrev pub finished_view : FinishedTest → ViewedTest
 finished_view t = record { result = t.result; attempts = t.attempts; is_slow = t.is_slow; flaky_result = t.flaky_result }
