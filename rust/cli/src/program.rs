@@ -129,7 +129,7 @@ impl fmt::Display for Failure {
 }
 
 /// Runs an engine from a reader to a writer. Returns status 0 if the engine returns true, and status 1 if it
-/// returns false. If a read or a write fails, the failure has the text of the system's error.
+/// returns false. Calls that are interrupted are repeated. The failure has the exact text of the fault.
 pub fn run_engine<R: Read, W: Write, E: Into<Failure>>(
     reader: R,
     writer: W,
@@ -142,13 +142,8 @@ pub fn run_engine<R: Read, W: Write, E: Into<Failure>>(
     let mut writer = KeepError::new(writer);
     let mut source = StdSource::new(&mut reader);
     let mut sink = StdSink::new(&mut writer);
-    match engine(&mut source, &mut sink) {
-        Ok(success) => Ok(ExitCode::from(u8::from(!success))),
-        Err(fault) => {
-            let error = reader.into_error().or(writer.into_error());
-            Err(fault.into().caused_by(error))
-        }
-    }
+    let success = engine(&mut source, &mut sink).map_err(E::into)?;
+    Ok(ExitCode::from(u8::from(!success)))
 }
 
 /// Prints a message of clap: the help, the version, or the error of an argument. Returns the exit status.

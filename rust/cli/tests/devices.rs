@@ -8,14 +8,18 @@ use deodarsieve_cli::run_digest_engine::count::count;
 use std::io::{self, ErrorKind, Read, Write};
 use std::process::{Command, ExitCode};
 
-/// Asserts that a program wrote nothing, failed with status 3, and wrote one line to standard error
-/// that starts so and then has the text of a system's error.
-fn assert_failed(output: &std::process::Output, start: &str) {
+/// Asserts that a program wrote nothing, failed with status 3, and wrote one line to standard error: that of `run-digest` is
+/// the text of the fault, and that of `test-report` starts so and then has the text of a system's error.
+fn assert_failed(output: &std::process::Output, program: &str, fault: &str) {
     let message = String::from_utf8_lossy(&output.stderr);
     assert_eq!(output.status.code(), Some(3), "{message}");
     assert_eq!(output.stdout, b"");
+    if program == "run-digest" {
+        assert_eq!(message, format!("{fault}\n"));
+        return;
+    }
     let cause = message
-        .strip_prefix(start)
+        .strip_prefix(&format!("{program}: {fault}"))
         .unwrap_or_else(|| panic!("{message}"));
     assert!(
         cause.starts_with(": ") && cause.contains("os error"),
@@ -27,7 +31,7 @@ fn assert_failed(output: &std::process::Output, start: &str) {
 #[test]
 fn a_file_that_cannot_be_opened() {
     let output = run("test-report", &["no/such/run.jsonl"], b"");
-    assert_failed(&output, "test-report: no/such/run.jsonl cannot be opened");
+    assert_failed(&output, "test-report", "no/such/run.jsonl cannot be opened");
 }
 
 #[cfg(unix)]
@@ -35,10 +39,10 @@ fn a_file_that_cannot_be_opened() {
 fn a_folder_cannot_be_read() {
     let folder = env!("CARGO_MANIFEST_DIR");
     let output = run("test-report", &[folder], b"");
-    assert_failed(&output, "test-report: read failed");
+    assert_failed(&output, "test-report", "read failed");
     let opened = std::fs::File::open(folder).expect("the folder can be opened");
     let output = common::run_on_file("run-digest", &["count"], opened);
-    assert_failed(&output, "read failed");
+    assert_failed(&output, "run-digest", "read failed");
 }
 
 #[test]
@@ -54,7 +58,7 @@ fn standard_output_that_is_closed() {
         drop(stdin);
         let output = child.wait_with_output().expect("the program ends");
         if program == "run-digest" {
-            assert_failed(&output, "write failed");
+            assert_failed(&output, program, "write failed");
         } else {
             assert_output(&output, b"", b"", 3, program);
         }
@@ -64,35 +68,28 @@ fn standard_output_that_is_closed() {
 #[cfg(target_os = "linux")]
 #[test]
 fn no_standard_output() {
-    let cases: [(&str, &[&str], &str); 5] = [
-        ("test-report", &["-"], "test-report: write failed"),
-        (
-            "test-report",
-            &["--format", "names"],
-            "test-report: write failed",
-        ),
-        ("test-report", &["--help"], "test-report: write failed"),
-        ("run-digest", &["count"], "write failed"),
-        ("run-digest", &["--version"], "write failed"),
+    let cases: [(&str, &[&str]); 5] = [
+        ("test-report", &["-"]),
+        ("test-report", &["--format", "names"]),
+        ("test-report", &["--help"]),
+        ("run-digest", &["count"]),
+        ("run-digest", &["--version"]),
     ];
-    for (program, arguments, message) in cases {
+    for (program, arguments) in cases {
         let output = Command::new("sh")
             .args(["-c", "printf 'run 0 0 -\\n' | \"$0\" \"$@\" >&-"])
             .arg(path_of(program))
             .args(arguments)
             .output()
             .expect("a shell runs");
-        assert_failed(&output, message);
+        assert_failed(&output, program, "write failed");
     }
 }
 
 #[cfg(target_os = "linux")]
 #[test]
 fn standard_output_that_is_full() {
-    for (program, argument, message) in [
-        ("test-report", "--others=never", "test-report: write failed"),
-        ("run-digest", "count", "write failed"),
-    ] {
+    for (program, argument) in [("test-report", "--others=never"), ("run-digest", "count")] {
         let full = std::fs::OpenOptions::new()
             .write(true)
             .open("/dev/full")
@@ -105,7 +102,7 @@ fn standard_output_that_is_full() {
         stdin.write_all(b"run 0 0 -\n").expect("the program reads");
         drop(stdin);
         let output = child.wait_with_output().expect("the program ends");
-        assert_failed(&output, message);
+        assert_failed(&output, program, "write failed");
     }
 }
 

@@ -18,7 +18,7 @@ fn run() -> Result<ExitCode, Failure> {
         }
         Ok(_) => run_engine(reader, writer, |source, sink| count(source, sink)),
         Err(message) if message.use_stderr() => Err(Fault::BadWord.into()),
-        Err(help) => print_clap(&help),
+        Err(help) => print_clap(&help).map_err(|_| Fault::Write.into()),
     }
 }
 
