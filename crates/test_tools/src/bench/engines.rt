@@ -42,7 +42,7 @@ impl Digest {
         size: Size,
     ) -> Result<Self, AllocError> {
         let input = output.bytes(alloc, size)?;
-        let panic = output.panic_in(input.as_slice());
+        let panic = output.part_in(input.as_slice());
         let mut text = Vec::new(alloc);
         match panic {
             None => text.extend_from_slice(b"none\n")?,

@@ -23,8 +23,8 @@ pub(crate) struct Extraction {
     outputs: Vec<Vec<u8>>,
     streams: Streams,
 
-    /// The start and the end of the panic that must be found in each output.
-    panic: Option<(usize, usize)>,
+    /// The start and the end of the part that must be found in each output.
+    part: Option<(usize, usize)>,
 }
 
 impl Extraction {
@@ -36,11 +36,11 @@ impl Extraction {
         streams: Streams,
     ) -> Result<Self, AllocError> {
         let bytes = output.bytes(alloc, size)?;
-        let panic = output.panic_in(bytes.as_slice());
+        let part = output.part_in(bytes.as_slice());
         Ok(Extraction {
             outputs: vec![in alloc; bytes]?,
             streams,
-            panic,
+            part,
         })
     }
 
@@ -52,7 +52,7 @@ impl Extraction {
         count: usize,
     ) -> Result<Self, AllocError> {
         let bytes = output.bytes(alloc, Size::FULL)?;
-        let panic = output.panic_in(bytes.as_slice());
+        let part = output.part_in(bytes.as_slice());
         let mut outputs = Vec::new(alloc);
         for _ in 0..count {
             outputs.push(bytes.clone()?)?;
@@ -60,25 +60,21 @@ impl Extraction {
         Ok(Extraction {
             outputs,
             streams: Streams::Both,
-            panic,
+            part,
         })
     }
 
-    /// Returns true if the extraction finds the right panic in an output.
-    fn finds_panic(&self, bytes: &[u8]) -> bool {
+    /// Returns true if the extraction finds the right part of an output.
+    fn finds_part(&self, bytes: &[u8]) -> bool {
         let (stdout, stderr) = match self.streams {
             Streams::Stdout => (Some(bytes), None),
             Streams::Stderr => (None, Some(bytes)),
             Streams::Both => (Some(bytes), Some(bytes)),
         };
-        match TestOutputErrorSlice::heuristic_extract(stdout, stderr) {
-            None => self.panic.is_none(),
-            Some(TestOutputErrorSlice::PanicMessage { stderr_subslice }) => {
-                let start = stderr_subslice.start;
-                self.panic == Some((start, start.wrapping_add(stderr_subslice.slice.len())))
-            }
-            Some(_) => false,
-        }
+        let part = TestOutputErrorSlice::heuristic_extract(stdout, stderr)
+            .and_then(|found| found.combined_subslice())
+            .map(|part| (part.start, part.start.wrapping_add(part.slice.len())));
+        part == self.part
     }
 }
 
@@ -86,7 +82,7 @@ impl Work for Extraction {
     fn run(&mut self, step: Step) -> bool {
         let mut outputs = self.outputs.iter();
         match step {
-            Step::Call => outputs.all(|bytes| self.finds_panic(bytes.as_slice())),
+            Step::Call => outputs.all(|bytes| self.finds_part(bytes.as_slice())),
             Step::Beside => true,
             Step::Pass => outputs.all(|bytes| reads_all(bytes.as_slice())),
         }

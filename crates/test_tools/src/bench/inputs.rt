@@ -7,11 +7,11 @@ ghost use Rattle.std.proofs.Math.ListN.{replicate};
 use crate::bench::size::Size;
 use std::alloc::{AllocError, Global};
 
-/// The place where the panic in an output begins. It ends before the white space at the end of the
-/// output.
+/// The place where the part of an output that must be extracted begins. It ends before the white
+/// space at the end of the output.
 #[derive(Clone, Copy, Debug, PartialEq, Eq)]
 pub(crate) enum Place {
-    /// There is no panic.
+    /// There is no such part.
     Nowhere,
 
     /// At the front.
@@ -36,8 +36,8 @@ pub(crate) struct Output {
 
     pub(crate) end: &'static [u8],
 
-    /// The place where the panic in the output begins.
-    pub(crate) panic_at: Place,
+    /// The place where the part that must be extracted begins.
+    pub(crate) part_at: Place,
 }
 
 impl Output {
@@ -52,9 +52,10 @@ impl Output {
         )
     }
 
-    /// Returns the start and the end of the panic in the output of this size, if there is one.
-    pub(crate) fn panic_in(&self, bytes: &[u8]) -> Option<(usize, usize)> {
-        let start = match self.panic_at {
+    /// Returns the start and the end of the part that must be extracted from the output of this size,
+    /// if there is one.
+    pub(crate) fn part_in(&self, bytes: &[u8]) -> Option<(usize, usize)> {
+        let start = match self.part_at {
             Place::Nowhere => return None,
             Place::Front => 0,
             Place::LastPiece => bytes

@@ -27,3 +27,24 @@ pub(crate) const TRUE_LINE: &[u8] =
 /// A line of a log, of 64 bytes, without a quote.
 pub(crate) const QUOTELESS_LOG: &[u8] =
     b"[00:00:01.209 TRACE wire::frame] read 4096 bytes, stream 5, End\n";
+
+/// Four frames of a backtrace, of 334 bytes in all.
+pub(crate) const FRAMES: &[u8] = b"\
+\x20  0: core::panicking::panic_fmt\n\
+\x20            at ./library/core/src/panicking.rs:75:14\n\
+\x20  1: checks::pool::Pool::take_block\n\
+\x20            at ./src/pool.rs:41:9\n\
+\x20  2: checks::pool::tests::grows\n\
+\x20            at ./tests/checks.rs:97:16\n\
+\x20  3: core::ops::function::FnOnce::call_once\n\
+\x20            at ./library/core/src/ops/function.rs:250:5\n";
+
+/// A `thread '` prefix, 480 quotes and the end of a head. There is no head in it.
+pub(crate) const QUOTES_IN_HEAD: &[u8] = b"\
+thread 'x' started\n\
+''''''''''''''''''''''''''''''''''''''''''''''''''''''''''''''''''''''''''''''''\
+''''''''''''''''''''''''''''''''''''''''''''''''''''''''''''''''''''''''''''''''\
+''''''''''''''''''''''''''''''''''''''''''''''''''''''''''''''''''''''''''''''''\
+''''''''''''''''''''''''''''''''''''''''''''''''''''''''''''''''''''''''''''''''\
+''''''''''''''''''''''''''''''''''''''''''''''''''''''''''''''''''''''''''''''''\
+'''''''''''''''''''''''''''''''''''''''''''''''''''''''''''''''''''''''''''''''' panicked at \n";

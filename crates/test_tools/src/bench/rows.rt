@@ -1,7 +1,7 @@
 //! The rows: the calls that are measured, with the limits of their ratios.
 
 use crate::bench::inputs::{Output, Place};
-use crate::bench::logs::{LINE, LOG, QUOTELESS_LOG, TRUE_LINE, TWO_LINES};
+use crate::bench::logs::{FRAMES, LINE, LOG, QUOTELESS_LOG, QUOTES_IN_HEAD, TRUE_LINE, TWO_LINES};
 
 /// The call that is measured.
 #[derive(Clone, Copy)]
@@ -35,14 +35,22 @@ pub(crate) type Row = (&'static str, Option<u64>, Kind);
 
 const PANIC: &[u8] = b"thread 'pool::tests::grows' panicked at src/pool.rs:41:9:\nno room left\n";
 
-/// Returns pieces without a front, an end and a panic.
+/// A panic before the frames of its backtrace.
+const BACKTRACED_PANIC: &[u8] = b"\
+thread 'pool::tests::grows' panicked at src/pool.rs:41:9:\n\
+no room left\n\
+stack backtrace:\n";
+
+const ERROR: &[u8] = b"Error: no room left\n";
+
+/// Returns pieces without a front and an end, from which nothing is extracted.
 fn pieces(piece: &'static [u8], count: u32) -> Output {
     Output {
         front: b"",
         piece,
         count,
         end: b"",
-        panic_at: Place::Nowhere,
+        part_at: Place::Nowhere,
     }
 }
 
@@ -64,12 +72,12 @@ pub(crate) fn ordinary() -> [Row; 6] {
     };
     let front = Output {
         front: PANIC,
-        panic_at: Place::Front,
+        part_at: Place::Front,
         ..log
     };
     let end = Output {
         end: PANIC,
-        panic_at: Place::End,
+        part_at: Place::End,
         ..log
     };
     [
@@ -82,32 +90,64 @@ pub(crate) fn ordinary() -> [Row; 6] {
     ]
 }
 
-/// The rows of short output, of 0, 40, 200 and 2,000 bytes.
-pub(crate) fn short() -> [Row; 4] {
+/// The rows of short output, of at most 4,000 bytes.
+pub(crate) fn short() -> [Row; 8] {
     let empty = pieces(b"", 0);
     let line = Output { end: LINE, ..empty };
     let panic = Output {
         front: TWO_LINES,
         end: PANIC,
-        panic_at: Place::End,
+        part_at: Place::End,
         ..empty
     };
     let log = Output {
         end: TRUE_LINE,
         ..pieces(LOG, 3)
     };
+    // The bytes by which short output is searched for markers, 2,048 in all.
+    let rare = pieces(b"kEx'", 512);
+    let panic_front = Output {
+        front: PANIC,
+        part_at: Place::Front,
+        ..pieces(LOG, 6)
+    };
+    let backtrace = Output {
+        front: BACKTRACED_PANIC,
+        part_at: Place::Front,
+        ..pieces(FRAMES, 6)
+    };
+    let error_front = Output {
+        front: ERROR,
+        ..panic_front
+    };
     [
         ("short-empty", Some(30_000), Kind::Short(empty, 10_000)),
         ("short-line", Some(20_000), Kind::Short(line, 10_000)),
         ("short-panic", Some(20_000), Kind::Short(panic, 3_000)),
         ("short-log", Some(9_000), Kind::Short(log, 1_000)),
+        ("short-rare", Some(12_000), Kind::Short(rare, 1_000)),
+        (
+            "short-backtrace",
+            Some(10_000),
+            Kind::Short(backtrace, 1_000),
+        ),
+        (
+            "short-panic-front",
+            Some(6_000),
+            Kind::Short(panic_front, 500),
+        ),
+        (
+            "short-error-front",
+            Some(6_000),
+            Kind::Short(error_front, 500),
+        ),
     ]
 }
 
 /// The rows of output that is chosen to take long.
-pub(crate) fn adverse() -> [Row; 8] {
+pub(crate) fn adverse() -> [Row; 9] {
     let heads = Output {
-        panic_at: Place::LastPiece,
+        part_at: Place::LastPiece,
         ..pieces(b"thread 'main' panicked at src/lib.rs:1:1:\n", 1_000_000)
     };
     let openings = before_no_head(pieces(b"thread 'a\n", 1_000_000));
@@ -116,7 +156,7 @@ pub(crate) fn adverse() -> [Row; 8] {
     let notes = pieces(b"note: test did not panic as expecte_\n", 1_000_000);
     let white = Output {
         front: b"thread 'a' panicked at b",
-        panic_at: Place::Front,
+        part_at: Place::Front,
         ..pieces(b"   \t    \n   \t   ", 4_000_000)
     };
     [
@@ -133,6 +173,11 @@ pub(crate) fn adverse() -> [Row; 8] {
             "newlines",
             Some(4_000),
             Kind::Stderr(pieces(b"\n", 16_000_000)),
+        ),
+        (
+            "quotes-in-heads",
+            Some(10_000),
+            Kind::Stderr(pieces(QUOTES_IN_HEAD, 100_000)),
         ),
         ("near-notes", Some(10_000), Kind::Stdout(notes)),
         ("white-space", None, Kind::Stderr(white)),

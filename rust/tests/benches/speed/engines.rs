@@ -20,7 +20,7 @@ const BLOCKS: usize = 80;
 fn extracted(output: &Output, size: usize) -> Work {
     let bytes: Rc<[u8]> = output.bytes(size).into();
     let read = Rc::clone(&bytes);
-    let panic = output.panic_in(&bytes);
+    let panic = output.part_in(&bytes);
     let expected = panic.map_or(b"none\n".to_vec(), |(start, end)| {
         let heading = format!("panic-message {start} {}\n", end - start);
         [heading.as_bytes(), &bytes[start..end], b"\n"].concat()

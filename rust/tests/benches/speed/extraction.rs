@@ -17,11 +17,11 @@ enum Streams {
     Both,
 }
 
-/// An output, and the start and the end of the panic in it.
+/// An output, and the start and the end of the part that must be extracted from it.
 struct Extraction {
     bytes: Vec<u8>,
     streams: Streams,
-    panic: Option<(usize, usize)>,
+    part: Option<(usize, usize)>,
 }
 
 impl Extraction {
@@ -39,13 +39,9 @@ impl Extraction {
     fn extract(&self) {
         let (stdout, stderr) = self.streams();
         let found = TestOutputErrorSlice::heuristic_extract(stdout, stderr);
-        let panic = found.map(|found| match found {
-            TestOutputErrorSlice::PanicMessage {
-                stderr_subslice: part,
-            } => (part.start, part.start + part.slice.len()),
-            other => panic!("no panic message: {other:?}"),
-        });
-        assert_eq!(panic, self.panic);
+        let part = found.and_then(|found| found.combined_subslice());
+        let ends = part.map(|part| (part.start, part.start + part.slice.len()));
+        assert_eq!(ends, self.part);
     }
 
     /// Extracts from the output with the library.
@@ -54,19 +50,19 @@ impl Extraction {
         use deodarsieve_archive::sys::{extract, written};
         let (stdout, stderr) = self.streams();
         let found = written(|answer| extract(stdout, stderr, answer)).expect("the status is OK");
-        let panic = (found.kind == 1).then_some((found.start, found.start + found.length));
-        assert_eq!(panic, self.panic);
+        let ends = (found.kind != 0).then_some((found.start, found.start + found.length));
+        assert_eq!(ends, self.part);
     }
 }
 
 /// Returns the extraction from an output of a size in bytes.
 fn work(output: &Output, streams: Streams, size: usize) -> Work {
     let bytes = output.bytes(size);
-    let panic = output.panic_in(&bytes);
+    let part = output.part_in(&bytes);
     let extraction = Rc::new(Extraction {
         bytes,
         streams,
-        panic,
+        part,
     });
     let (called, passed) = (Rc::clone(&extraction), Rc::clone(&extraction));
     Work {
@@ -76,13 +72,17 @@ fn work(output: &Output, streams: Streams, size: usize) -> Work {
     }
 }
 
-/// Returns the rows of short output, of 0, 40, 200 and 2,000 bytes.
+/// Returns the rows of short output, of at most 4,000 bytes.
 fn short_rows() -> impl Iterator<Item = Row> {
     let outputs = [
         ("short-empty", inputs::EMPTY),
         ("short-line", inputs::SHORT_LINE),
         ("short-panic", inputs::SHORT_PANIC),
         ("short-log", inputs::SHORT_LOG),
+        ("short-rare", inputs::SHORT_RARE),
+        ("short-backtrace", inputs::SHORT_BACKTRACE),
+        ("short-panic-front", inputs::SHORT_PANIC_FRONT),
+        ("short-error-front", inputs::SHORT_ERROR_FRONT),
     ];
     outputs.into_iter().map(|(name, output)| {
         Row::new(name, move |_| {
@@ -110,6 +110,7 @@ pub fn rows() -> Vec<Row> {
         stderr("openings-spaced", inputs::OPENINGS_SPACED),
         stderr("quotes", inputs::QUOTES),
         stderr("newlines", inputs::NEWLINES),
+        stderr("quotes-in-heads", inputs::QUOTES_IN_HEADS),
         Row::new("near-notes", |size| {
             work(&inputs::NEAR_NOTES, Streams::Stdout, size)
         }),

@@ -21,11 +21,33 @@ test session::tests::closes_after_timeout ... ok\n\
 /// A line of a log, of 64 bytes, without a quote.
 const QUOTELESS_LOG: &[u8] = b"[00:00:01.209 TRACE wire::frame] read 4096 bytes, stream 5, End\n";
 
+/// Four frames of a backtrace, of 334 bytes in all.
+const FRAMES: &[u8] = b"\
+\x20  0: core::panicking::panic_fmt\n\
+\x20            at ./library/core/src/panicking.rs:75:14\n\
+\x20  1: checks::pool::Pool::take_block\n\
+\x20            at ./src/pool.rs:41:9\n\
+\x20  2: checks::pool::tests::grows\n\
+\x20            at ./tests/checks.rs:97:16\n\
+\x20  3: core::ops::function::FnOnce::call_once\n\
+\x20            at ./library/core/src/ops/function.rs:250:5\n";
+
+/// A `thread '` prefix, 480 quotes and the end of a head. There is no head in it.
+const QUOTES_IN_HEAD: &[u8] = b"\
+thread 'x' started\n\
+''''''''''''''''''''''''''''''''''''''''''''''''''''''''''''''''''''''''''''''''\
+''''''''''''''''''''''''''''''''''''''''''''''''''''''''''''''''''''''''''''''''\
+''''''''''''''''''''''''''''''''''''''''''''''''''''''''''''''''''''''''''''''''\
+''''''''''''''''''''''''''''''''''''''''''''''''''''''''''''''''''''''''''''''''\
+''''''''''''''''''''''''''''''''''''''''''''''''''''''''''''''''''''''''''''''''\
+'''''''''''''''''''''''''''''''''''''''''''''''''''''''''''''''''''''''''''''''' panicked at \n";
+
 /// A line that ends like the head of a panic message but is not one. Without such a line the search
 /// does not look for heads.
 const NO_HEAD: &[u8] = b"the worker panicked at start\n";
 
-/// The place of the panic in an output. It ends before the white space at the end of the output.
+/// The place of the part of an output that must be extracted. It ends before the white space at the
+/// end of the output.
 #[derive(Clone, Copy)]
 pub enum Place {
     Nowhere,
@@ -47,17 +69,17 @@ pub struct Output {
     count: usize,
 
     end: &'static [u8],
-    panic_at: Place,
+    part_at: Place,
 }
 
-/// Returns an output that is only a repeated piece without a panic.
+/// Returns an output that is only a repeated piece, from which nothing is extracted.
 const fn pieces(piece: &'static [u8], count: usize) -> Output {
     Output {
         front: b"",
         piece,
         count,
         end: b"",
-        panic_at: Place::Nowhere,
+        part_at: Place::Nowhere,
     }
 }
 
@@ -73,13 +95,13 @@ pub const NOTHING_FOUND: Output = pieces(LOG, 100_000);
 
 pub const PANIC_NEAR_END: Output = Output {
     end: PANIC,
-    panic_at: Place::End,
+    part_at: Place::End,
     ..NOTHING_FOUND
 };
 
 pub const PANIC_AT_FRONT: Output = Output {
     front: PANIC,
-    panic_at: Place::Front,
+    part_at: Place::Front,
     ..NOTHING_FOUND
 };
 
@@ -89,7 +111,7 @@ pub const FALSE_OPENING: Output = Output {
 };
 
 pub const HEADS: Output = Output {
-    panic_at: Place::LastPiece,
+    part_at: Place::LastPiece,
     ..pieces(b"thread 'main' panicked at src/lib.rs:1:1:\n", 1_000_000)
 };
 
@@ -106,11 +128,13 @@ pub const QUOTES: Output = pieces(b"'", 16_000_000);
 
 pub const NEWLINES: Output = pieces(b"\n", 16_000_000);
 
+pub const QUOTES_IN_HEADS: Output = pieces(QUOTES_IN_HEAD, 100_000);
+
 pub const NEAR_NOTES: Output = pieces(b"note: test did not panic as expecte_\n", 1_000_000);
 
 pub const WHITE_SPACE: Output = Output {
     front: b"thread 'a' panicked at b",
-    panic_at: Place::Front,
+    part_at: Place::Front,
     ..pieces(b"   \t    \n   \t   ", 4_000_000)
 };
 
@@ -137,6 +161,31 @@ pub const SHORT_LOG: Output = Output {
     ..pieces(LOG, 3)
 };
 
+/// The bytes by which short output is searched for markers, 2,048 in all.
+pub const SHORT_RARE: Output = pieces(b"kEx'", 512);
+
+/// A panic before a backtrace of 2,004 bytes.
+pub const SHORT_BACKTRACE: Output = Output {
+    front: b"\
+thread 'pool::tests::grows' panicked at src/pool.rs:41:9:\n\
+no room left\n\
+stack backtrace:\n",
+    part_at: Place::Front,
+    ..pieces(FRAMES, 6)
+};
+
+/// A panic before 3,840 bytes of a log.
+pub const SHORT_PANIC_FRONT: Output = Output {
+    count: 6,
+    ..PANIC_AT_FRONT
+};
+
+/// An error before 3,840 bytes of a log.
+pub const SHORT_ERROR_FRONT: Output = Output {
+    front: b"Error: no room left\n",
+    ..SHORT_PANIC_FRONT
+};
+
 impl Output {
     /// Returns the output of a size in bytes.
     pub fn bytes(&self, size: usize) -> Vec<u8> {
@@ -148,9 +197,10 @@ impl Output {
         .concat()
     }
 
-    /// Returns the start and the end of the panic in `bytes`, which is this output of some size.
-    pub fn panic_in(&self, bytes: &[u8]) -> Option<(usize, usize)> {
-        let start = match self.panic_at {
+    /// Returns the start and the end of the part that must be extracted from `bytes`, which is this
+    /// output of some size.
+    pub fn part_in(&self, bytes: &[u8]) -> Option<(usize, usize)> {
+        let start = match self.part_at {
             Place::Nowhere => return None,
             Place::Front => 0,
             Place::LastPiece => bytes.len() - self.end.len() - self.piece.len(),
