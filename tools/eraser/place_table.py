@@ -40,6 +40,25 @@ pub struct ExecutionStatusesIter<'a, S: OutputSpec> {
 """,
         "self.statuses.iter()\n",
     ),
+    # Rust chooses the order in memory by itself. This order is nextest's, in which JSON is written.
+    (
+        "run_events_attempts/src/attempts.rt",
+        """    // Next to the result, since counting reads both fields of each test's last attempt. Today
+    // fields are in memory in the order of their declaration.
+    /// True if it took longer than the slow timeout.
+    pub is_slow: bool,
+
+    /// The result of the attempt.""",
+        "    /// The result of the attempt.",
+    ),
+    (
+        "run_events_attempts/src/attempts.rt",
+        """    /// How long the runner waited before the attempt,""",
+        """    /// True if it took longer than the slow timeout.
+    pub is_slow: bool,
+
+    /// How long the runner waited before the attempt,""",
+    ),
     # The crates are modules.
     (
         "run_events/src/lib.rt",

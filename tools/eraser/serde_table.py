@@ -1,10 +1,11 @@
 """How types are serialized with the feature `serde`: the traits and the attributes that nextest's own types have.
 
-A type whose attributes cannot say what nextest's type does has no row. Its traits are in `std_impls/serde`.
+A trait is in `std_impls/serde` if attributes cannot say what that of nextest's type does.
 """
 
 BOTH = ("Serialize", "Deserialize")
 READ = ("Deserialize",)
+WRITTEN = ("Serialize",)
 KEBAB = 'rename_all = "kebab-case"'
 
 # The output of a process is described by a type of the user: a record has the traits that this type has.
@@ -21,7 +22,9 @@ SERDE = {
     "ChildExecutionOutputDescription": (BOTH, ('tag = "type"', KEBAB, BY_OUTPUT)),
     "ChildStartErrorDescription": (BOTH, ('tag = "kind"', KEBAB)),
     "ErrorSummary": (BOTH, (KEBAB,)),
+    "ExecuteStatus": (BOTH, (KEBAB, BY_OUTPUT)),
     "ExecutionResultDescription": (BOTH, ('tag = "status"', KEBAB)),
+    "ExecutionStatuses": (WRITTEN, (KEBAB, BY_OUTPUT)),
     "FailureDescription": (BOTH, ('tag = "kind"', KEBAB)),
     "FinalRunStats": (BOTH, ('tag = "outcome"', KEBAB)),
     "FinalStatusLevel": (READ, (KEBAB,)),

@@ -51,7 +51,7 @@ NON_EXHAUSTIVE = (
 )
 
 # Types whose private fields are visible to the files that are written by hand.
-CRATE_FIELDS = ("ErrorList", "UnitErrorDescription")
+CRATE_FIELDS = ("ErrorList", "ExecutionStatuses", "UnitErrorDescription")
 
 # Types that get `must_use`, and types of std that have it.
 MUST_USE = ("RunOutcome",)
@@ -65,8 +65,8 @@ OTHER_ARMS = {
     ),
 }
 
-# Methods that have another name in Rust: `source` would hide the method of `std::error::Error`, and nextest's lists of
-# a unit's errors have items of another type, so the methods with nextest's names are written by hand.
+# Methods that have another name in Rust: `source` would hide the method of `std::error::Error`, and the methods with
+# nextest's names return lists with items of another type, so they are written by hand and convert these lists.
 RENAMED_METHODS = {
     "ChildErrorDescription::source": "cause",
     "ChildStartErrorDescription::source": "cause",

@@ -38,7 +38,6 @@ SAME_TYPES = {"c_int": "i32", "NTSTATUS": "i32"}
 # of the crate, `nextest_json`, has what they say.
 BY_HAND = {
     "ExecutionStatuses": (
-        '#[serde(rename_all = "kebab-case")]',
         '#[serde(default)] flaky_result',
         '#[serde(rename_all = "kebab-case")] Helper',
         '#[serde(default)] Helper.flaky_result',
@@ -82,4 +81,7 @@ CONDITIONS = {("cfg ( unix )", ""): "on every platform, there on Unix"}
 ABSENT = {
     "StatusLevel: JsonSchema": "with the feature `config-schema`",
     "FinalStatusLevel: JsonSchema": "with the feature `config-schema`",
+    "UnitErrorDescription::all_errors": "private; `unit_errors` lists the same errors",
+    "UnitErrorDescription::exec_fail_errors": "private; `exec_fail_unit_errors` lists the same errors",
+    "UnitErrorDescription::child_process_errors": "private; `child_process_unit_errors` lists the same errors",
 }

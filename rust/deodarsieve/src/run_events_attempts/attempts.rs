@@ -85,17 +85,23 @@ pub struct SetupScriptEnvMap {
 }
 
 /// One finished attempt to run a test.
+#[cfg_attr(
+    feature = "serde",
+    derive(serde::Serialize, serde::Deserialize),
+    serde(
+        rename_all = "kebab-case",
+        bound(
+            serialize = "S::ChildOutputDesc: serde::Serialize",
+            deserialize = "S::ChildOutputDesc: serde::Deserialize<'de>"
+        )
+    )
+)]
 pub struct ExecuteStatus<S: OutputSpec> {
     /// The number of the attempt.
     pub retry_data: RetryData,
 
     /// The output and the errors of its process.
     pub output: ChildExecutionOutputDescription<S>,
-
-    // Next to the result, since counting reads both fields of each test's last attempt. Today
-    // fields are in memory in the order of their declaration.
-    /// True if it took longer than the slow timeout.
-    pub is_slow: bool,
 
     /// The result of the attempt. The counters and levels of a test depend on the result of its last
     /// attempt, and not on the results of earlier ones.
@@ -106,6 +112,9 @@ pub struct ExecuteStatus<S: OutputSpec> {
 
     /// How long it took.
     pub time_taken: Duration,
+
+    /// True if it took longer than the slow timeout.
+    pub is_slow: bool,
 
     /// How long the runner waited before the attempt, for example because of a backoff.
     pub delay_before_start: Duration,

@@ -91,7 +91,10 @@ impl From<TestOutputErrorSlice<'_>> for OutputErrorSlice {
     fn from(slice: TestOutputErrorSlice<'_>) -> Self {
         OutputErrorSlice {
             slice: slice.to_string(),
-            start: slice.combined_subslice().map_or(0, |part| part.start),
+            start: slice
+                .combined_subslice()
+                .expect("each kind has a part")
+                .start,
         }
     }
 }

@@ -3,35 +3,29 @@
 use crate::run_events_attempts::attempts::EmptyStatuses;
 #[cfg(feature = "serde_json")]
 use crate::run_events_attempts::chain::FromValueError;
-use crate::run_events_attempts::child::{ChildError, ChildFdError, ChildStartError};
+use crate::run_events_attempts::child::{
+    ChildError, ChildErrorDescription, ChildFdError, ChildStartError, ChildStartErrorDescription,
+};
 use core::fmt;
 
+/// Writes the text of the description.
 impl fmt::Display for ChildStartError {
     fn fmt(&self, f: &mut fmt::Formatter<'_>) -> fmt::Result {
-        f.write_str(match self {
-            ChildStartError::TempPath(_) => "error creating temporary path for setup script",
-            ChildStartError::Spawn(_) => "error spawning child process",
-        })
+        ChildStartErrorDescription::from(self.clone()).fmt(f)
     }
 }
 
-impl fmt::Display for ChildFdError {
-    fn fmt(&self, f: &mut fmt::Formatter<'_>) -> fmt::Result {
-        f.write_str(match self {
-            ChildFdError::ReadStdout(_) => "error reading standard output",
-            ChildFdError::ReadStderr(_) => "error reading standard error",
-            ChildFdError::ReadCombined(_) => "error reading combined stream",
-            ChildFdError::Wait(_) => "error waiting for child process to exit",
-        })
-    }
-}
-
+/// Writes the text of the description.
 impl fmt::Display for ChildError {
     fn fmt(&self, f: &mut fmt::Formatter<'_>) -> fmt::Result {
-        match self {
-            ChildError::Fd(error) => fmt::Display::fmt(error, f),
-            ChildError::SetupScriptOutput(_) => f.write_str("error reading setup script output"),
-        }
+        ChildErrorDescription::from(self.clone()).fmt(f)
+    }
+}
+
+/// Writes the text of the description.
+impl fmt::Display for ChildFdError {
+    fn fmt(&self, f: &mut fmt::Formatter<'_>) -> fmt::Result {
+        ChildError::from(self.clone()).fmt(f)
     }
 }
 

@@ -5,7 +5,6 @@ use crate::run_events_attempts::attempts::{
     ExecuteStatus, ExecutionDescription, ExecutionStatuses, SetupScriptExecuteStatus,
 };
 use crate::run_events_attempts::child::{ChildExecutionOutputDescription, OutputSpec};
-use alloc::vec::Vec;
 use core::fmt;
 
 /// Implements the traits for a record with public fields.
@@ -66,38 +65,10 @@ by_fields!(SetupScriptExecuteStatus {
     error_summary,
 });
 
-impl<S: OutputSpec> Clone for ExecutionStatuses<S>
-where
-    S::ChildOutputDesc: Clone,
-{
-    fn clone(&self) -> Self {
-        let statuses: Vec<ExecuteStatus<S>> = self.iter().cloned().collect();
-        ExecutionStatuses::new(statuses, self.flaky_result())
-    }
-}
-
-impl<S: OutputSpec> fmt::Debug for ExecutionStatuses<S>
-where
-    S::ChildOutputDesc: fmt::Debug,
-{
-    fn fmt(&self, f: &mut fmt::Formatter<'_>) -> fmt::Result {
-        f.debug_struct("ExecutionStatuses")
-            .field("statuses", &self.iter().as_slice())
-            .field("flaky_result", &self.flaky_result())
-            .finish()
-    }
-}
-
-impl<S: OutputSpec> PartialEq for ExecutionStatuses<S>
-where
-    S::ChildOutputDesc: PartialEq,
-{
-    fn eq(&self, other: &Self) -> bool {
-        self.flaky_result() == other.flaky_result() && self.iter().eq(other.iter())
-    }
-}
-
-impl<S: OutputSpec> Eq for ExecutionStatuses<S> where S::ChildOutputDesc: Eq {}
+by_fields!(ExecutionStatuses {
+    statuses,
+    flaky_result,
+});
 
 impl<'a, S: OutputSpec> IntoIterator for &'a ExecutionStatuses<S> {
     type Item = &'a ExecuteStatus<S>;
@@ -128,27 +99,6 @@ where
     }
 }
 
-impl<S: OutputSpec> fmt::Debug for ChildExecutionOutputDescription<S>
-where
-    S::ChildOutputDesc: fmt::Debug,
-{
-    fn fmt(&self, f: &mut fmt::Formatter<'_>) -> fmt::Result {
-        match self {
-            Self::Output {
-                result,
-                output,
-                errors,
-            } => f
-                .debug_struct("Output")
-                .field("result", result)
-                .field("output", output)
-                .field("errors", errors)
-                .finish(),
-            Self::StartError(error) => f.debug_tuple("StartError").field(error).finish(),
-        }
-    }
-}
-
 impl<S: OutputSpec> PartialEq for ChildExecutionOutputDescription<S>
 where
     S::ChildOutputDesc: PartialEq,
@@ -166,14 +116,47 @@ where
                     output: other_output,
                     errors: other_errors,
                 },
-            ) => result == other_result && output == other_output && errors == other_errors,
+            ) => (result, output, errors) == (other_result, other_output, other_errors),
             (Self::StartError(error), Self::StartError(other)) => error == other,
-            _ => false,
+            (Self::Output { .. }, Self::StartError(_))
+            | (Self::StartError(_), Self::Output { .. }) => false,
         }
     }
 }
 
 impl<S: OutputSpec> Eq for ChildExecutionOutputDescription<S> where S::ChildOutputDesc: Eq {}
+
+/// Writes a variant with named fields as a derived `Debug` does.
+macro_rules! debug_variant {
+    ($f:ident, $name:ident { $($field:ident),* }) => {
+        $f.debug_struct(stringify!($name))
+            $(.field(stringify!($field), $field))*
+            .finish()
+    };
+}
+
+impl<S: OutputSpec> fmt::Debug for ChildExecutionOutputDescription<S>
+where
+    S::ChildOutputDesc: fmt::Debug,
+{
+    fn fmt(&self, f: &mut fmt::Formatter<'_>) -> fmt::Result {
+        match self {
+            Self::Output {
+                result,
+                output,
+                errors,
+            } => debug_variant!(
+                f,
+                Output {
+                    result,
+                    output,
+                    errors
+                }
+            ),
+            Self::StartError(error) => f.debug_tuple("StartError").field(error).finish(),
+        }
+    }
+}
 
 impl<S: OutputSpec> fmt::Debug for ExecutionDescription<'_, S>
 where
@@ -181,30 +164,31 @@ where
 {
     fn fmt(&self, f: &mut fmt::Formatter<'_>) -> fmt::Result {
         match self {
-            Self::Success { single_status } => f
-                .debug_struct("Success")
-                .field("single_status", single_status)
-                .finish(),
+            Self::Success { single_status } => debug_variant!(f, Success { single_status }),
             Self::Flaky {
                 last_status,
                 prior_statuses,
                 result,
-            } => f
-                .debug_struct("Flaky")
-                .field("last_status", last_status)
-                .field("prior_statuses", prior_statuses)
-                .field("result", result)
-                .finish(),
+            } => debug_variant!(
+                f,
+                Flaky {
+                    last_status,
+                    prior_statuses,
+                    result
+                }
+            ),
             Self::Failure {
                 first_status,
                 last_status,
                 retries,
-            } => f
-                .debug_struct("Failure")
-                .field("first_status", first_status)
-                .field("last_status", last_status)
-                .field("retries", retries)
-                .finish(),
+            } => debug_variant!(
+                f,
+                Failure {
+                    first_status,
+                    last_status,
+                    retries
+                }
+            ),
         }
     }
 }

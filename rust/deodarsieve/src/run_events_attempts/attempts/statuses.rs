@@ -10,9 +10,20 @@ use alloc::vec::Vec;
 
 /// All attempts of a finished test, in order, and how the test counts if it is flaky. There is always
 /// at least one attempt.
+#[cfg_attr(
+    feature = "serde",
+    derive(serde::Serialize),
+    serde(
+        rename_all = "kebab-case",
+        bound(
+            serialize = "S::ChildOutputDesc: serde::Serialize",
+            deserialize = "S::ChildOutputDesc: serde::Deserialize<'de>"
+        )
+    )
+)]
 pub struct ExecutionStatuses<S: OutputSpec> {
-    statuses: Vec<ExecuteStatus<S>>,
-    flaky_result: FlakyResult,
+    pub(crate) statuses: Vec<ExecuteStatus<S>>,
+    pub(crate) flaky_result: FlakyResult,
 }
 
 /// The error if a list of attempts is empty. A finished test has at least one attempt.
