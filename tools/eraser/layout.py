@@ -90,7 +90,7 @@ def target_of(name):
         folders, stem = [stem], "mod"
     elif not folders and stem in ("lib", "main"):
         stem = "mod"
-    return "/".join([FOLDERS[PACKAGE_OF[crate]], "src", *PATH_OF[crate], *folders, stem + ".rs"])
+    return "/".join([FOLDERS[PACKAGE_OF[crate]], *PATH_OF[crate], *folders, stem + ".rs"])
 
 
 def _headed(name, text):
@@ -121,7 +121,7 @@ def erased_folders(top):
     folders = []
     for package, crates in PACKAGES.items():
         for crate in crates:
-            folders += [top / "rust" / FOLDERS[package] / "src" / module for module in PARTS.get(crate, PATH_OF[crate])]
+            folders += [top / "rust" / FOLDERS[package] / module for module in PARTS.get(crate, PATH_OF[crate])]
     return folders
 
 

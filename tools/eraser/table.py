@@ -17,8 +17,12 @@ PACKAGES = {
         "test_tools",
     ),
 }
+
+# The folder in rust/ in which the modules of a package are. The samples for tests are with the tests of the layer, which
+# are packaged with it; the package of tests uses them from there.
 FOLDERS = {
-    LAYER: "deodarsieve", RUN: "run", "deodarsieve-cli": "cli", "deodarsieve-c": "c", "deodarsieve-tests": "tests",
+    LAYER: "deodarsieve/src", RUN: "run/src", "deodarsieve-cli": "cli/src", "deodarsieve-c": "c/src",
+    "deodarsieve-tests": "deodarsieve/tests",
 }
 PACKAGE_OF = {crate: package for package, crates in PACKAGES.items() for crate in crates}
 

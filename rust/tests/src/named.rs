@@ -32,13 +32,6 @@ pub fn reasons() -> Vec<Option<CancelReason>> {
     reasons
 }
 
-/// Returns the reason to cancel that a word names, if any.
-pub fn named_reason(word: &str) -> Option<Option<CancelReason>> {
-    reasons()
-        .into_iter()
-        .find(|reason| word_of(*reason) == word)
-}
-
 /// Returns the word for a reason: `test-failure` for `TestFailure`, and `-` for no reason.
 pub fn word_of(reason: Option<CancelReason>) -> String {
     let Some(reason) = reason else {

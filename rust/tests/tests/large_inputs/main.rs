@@ -3,5 +3,4 @@
 
 mod reports;
 mod runs;
-mod slices;
 mod time;

@@ -3,7 +3,6 @@
 //! A case is `STATUS INPUT STDOUT STDERR`: the exit status, and bytes in hexadecimal, or `-` for
 //! none.
 
-use crate::hexadecimal::bytes_in;
 use deodarsieve_cli::program_io::memory_device::{MemorySink, MemorySource};
 use deodarsieve_cli::run_digest_engine::command::Command;
 use deodarsieve_cli::run_digest_engine::count::count;
@@ -29,6 +28,14 @@ fn output_of(result: Result<bool, Fault>, stdout: Vec<u8>) -> Output {
         status,
         stdout,
         stderr,
+    }
+}
+
+/// Returns the bytes that a word spells in hexadecimal, with `-` for none.
+fn bytes_in(word: &str) -> Option<Vec<u8>> {
+    match word {
+        "-" => Some(Vec::new()),
+        digits => hex::decode(digits).ok(),
     }
 }
 

@@ -2,11 +2,11 @@
 
 use crate::counter::{counters_in, unit_in};
 use crate::unit::Unit;
+use crate::words::named_reason;
 use deodarsieve::{
     CancelReason, FinalRunStats, RunFinishedStats, RunOutcome, RunStats, RunStatsFailureKind,
     StressIndex, StressRunStats,
 };
-use deodarsieve_tests::named::named_reason;
 
 /// Returns the summary of counters with a reason. The summary of the end of a single run must be
 /// the same.

@@ -1,8 +1,8 @@
 //! Finished units that cases name.
 
+use crate::fixtures::finished_test;
 use crate::words::{earlier_attempts, named_result, named_setting, named_truth};
 use deodarsieve::{ExecutionStatuses, FinishedUnit, LiveSpec, SetupScriptExecuteStatus};
-use deodarsieve_tests::fixtures::finished_test;
 
 /// A finished unit.
 #[expect(clippy::large_enum_variant, reason = "a case has one unit")]

@@ -1,10 +1,10 @@
 //! Modes, kinds, reasons, settings and constants, and their texts.
 
 use crate::visibility::named_display;
+use crate::words::named_reason;
 use deodarsieve::{
     FlakyResult, NextestRunMode, SIGTERM, UnitKind, UnitTerminateReason, UnitTerminateSignal,
 };
-use deodarsieve_tests::named::named_reason;
 
 fn of_mode(word: &str) -> Option<String> {
     let mode = match word {

@@ -8,12 +8,12 @@
 //! levels are in order, the least first. Every pair of a letter in LINES and a letter in OUTPUTS is
 //! compared.
 
+use crate::words::named_reason;
 use deodarsieve::{
     AbortDescription, CancelReason, ExecutionResultDescription, FailureDescription,
     FinalStatusLevel, OutputOnTestFinished, OutputStoreFinal, StatusLevel, StatusLevels,
     TestOutputDisplay,
 };
-use deodarsieve_tests::named::named_reason;
 
 const STATUS_LEVELS: [StatusLevel; 8] = [
     StatusLevel::None,

@@ -10,12 +10,12 @@ use deodarsieve::{
     ExecutionResultDescription, LiveSpec, SerializableError, UnitError, UnitErrorDescription,
     UnitKind,
 };
-use serde_json::Value;
 
 /// Returns the texts of an error that a JSON text is read as, and the JSON text that is written for
 /// it, or why the text is not an error.
+#[cfg(feature = "serde_json")]
 fn of_json(json: &str) -> Option<String> {
-    let value: Value = serde_json::from_str(json).ok()?;
+    let value: serde_json::Value = serde_json::from_str(json).ok()?;
     let error = match SerializableError::from_value(&value) {
         Ok(error) => error,
         Err(refusal) => return Some(format!("{refusal:?}")),
@@ -84,13 +84,13 @@ fn errors_text(kind: UnitKind, output: &ChildExecutionOutputDescription<LiveSpec
         list_text(errors.exec_fail_unit_errors()),
         list_text(errors.child_process_unit_errors()),
     ];
-    // The lists that are written by hand have the same errors.
-    let by_hand = [
+    // The lists with nextest's names have the same errors.
+    let converted = [
         list_text(errors.all_error_list()),
         list_text(errors.exec_fail_error_list()),
         list_text(errors.child_process_error_list()),
     ];
-    assert_eq!(lists, by_hand);
+    assert_eq!(lists, converted);
     let has_errors = output.has_errors();
     let slice = slice_text(errors.output_slice());
     format!("{has_errors} | {slice} | {}", lists.join(" | "))
@@ -231,6 +231,7 @@ fn of_many_errors(count: &str) -> Option<String> {
 /// Returns the result of the crates, or `None` if the question is of another group.
 pub fn answer(parts: &[&str]) -> Option<String> {
     match parts {
+        #[cfg(feature = "serde_json")]
         ["SerializableError", json] => of_json(json),
         ["error of a process", word] => of_process(word),
         ["stdout_stderr_len", "not loaded"] => {

@@ -1,16 +1,16 @@
 //! Tests by their attempts: descriptions, levels, and what is shown.
 
+use crate::fixtures::attempt;
 use crate::level::{named_final_level, named_level};
 use crate::rows::words::result_in;
 use crate::visibility::named_display;
+use crate::words::named_reason;
 use crate::words::{named_setting, named_truth};
 use deodarsieve::{
     AbortDescription, ExecuteStatus, ExecutionDescription, ExecutionResult,
     ExecutionResultDescription, ExecutionStatuses, FailureDescription, LiveSpec, RetryData,
     StatusLevels,
 };
-use deodarsieve_tests::fixtures::attempt;
-use deodarsieve_tests::named::named_reason;
 
 /// Returns the results of all attempts; `none` for no attempt.
 fn results_in(words: &str) -> Option<Vec<ExecutionResult>> {

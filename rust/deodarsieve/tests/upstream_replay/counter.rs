@@ -3,12 +3,10 @@
 //! A case is `script RESULT: COUNTERS` or `test RESULT ATTEMPTS SETTING SLOW: COUNTERS`. COUNTERS
 //! are `NAME: NUMBER`, separated by a comma and a space. A counter that is not named is 0.
 
+use crate::fixtures::finished_script;
 use crate::unit::{Unit, test_in};
 use crate::words::named_result;
 use deodarsieve::{RunStart, RunStats};
-use deodarsieve_tests::fixtures::finished_script;
-use deodarsieve_tests::named::counters_by;
-use std::collections::BTreeMap;
 
 /// Returns the counters after a unit was counted from zero.
 fn updated(unit: &Unit) -> RunStats {
@@ -41,15 +39,47 @@ pub fn unit_in(text: &str) -> Option<Unit> {
     }
 }
 
+/// Returns the counter with this name.
+fn counter<'a>(stats: &'a mut RunStats, name: &str) -> Option<&'a mut usize> {
+    macro_rules! named {
+        ($($counter:ident),* $(,)?) => {
+            match name {
+                $(stringify!($counter) => Some(&mut stats.$counter),)*
+                _ => None,
+            }
+        };
+    }
+    named!(
+        initial_run_count,
+        finished_count,
+        setup_scripts_initial_count,
+        setup_scripts_finished_count,
+        setup_scripts_passed,
+        setup_scripts_failed,
+        setup_scripts_exec_failed,
+        setup_scripts_timed_out,
+        passed,
+        passed_slow,
+        passed_timed_out,
+        flaky,
+        failed,
+        failed_slow,
+        failed_timed_out,
+        leaky,
+        leaky_failed,
+        exec_failed,
+        skipped,
+    )
+}
+
 /// Returns the counters that a text names.
 pub fn counters_in(text: &str) -> Option<RunStats> {
-    let mut named = BTreeMap::new();
+    let mut stats = RunStats::default();
     for part in text.split(", ") {
         let (name, value) = part.split_once(": ")?;
-        named.insert(name, value.parse().ok()?);
+        *counter(&mut stats, name)? = value.parse().ok()?;
     }
-    let stats = counters_by(|name| named.remove(name).unwrap_or(0));
-    named.is_empty().then_some(stats)
+    Some(stats)
 }
 
 /// Returns true if the crates have the result of a case, or `None` if the text is not a case.

@@ -1,6 +1,6 @@
-//! Slices of outputs of four megabytes.
+//! Slices of long outputs, whose searches go block by block from the end.
 
-use deodarsieve::{ByteSubslice, TestOutputErrorSlice};
+use deodarsieve::{ByteSubslice, TestOutputErrorSlice, heuristic_panic_message};
 
 /// A line of a log, of 64 bytes.
 const LINE: &[u8] = b"[00:00:01.209 TRACE wire::frame] read 4096 bytes, kind Headers.\n";
@@ -68,4 +68,58 @@ fn a_note_is_found_at_each_place() {
 fn a_log_without_a_message_has_no_slice() {
     let output = LINE.repeat(LINES);
     assert!(extracted(&output).is_none());
+}
+
+/// The numbers of bytes after the borders of the first blocks, for a panic, and for an error or a
+/// note.
+const BORDERS: [usize; 7] = [2_048, 10_240, 51_200, 131_072, 182_272, 262_144, 313_344];
+
+/// Returns a log of 400,000 bytes with a message at each place around the borders of blocks.
+fn at_borders(message: &[u8]) -> impl Iterator<Item = (Vec<u8>, usize)> {
+    let log: Vec<u8> = LINE.iter().copied().cycle().take(400_000).collect();
+    BORDERS.into_iter().flat_map(move |border| {
+        let log = log.clone();
+        let message = message.to_vec();
+        (0..message.len() + 2).map(move |after| {
+            let start = log.len() - border - after;
+            let mut output = log.clone();
+            output[start - 1] = b'\n';
+            output[start..start + message.len()].copy_from_slice(&message);
+            (output, start)
+        })
+    })
+}
+
+#[test]
+fn a_panic_at_the_border_of_a_block_is_found() {
+    for (output, start) in at_borders(b"thread 'a' panicked at src/lib.rs:1:1:\n") {
+        let part = heuristic_panic_message(&output).expect("there is a panic");
+        assert_eq!(part.start, start);
+    }
+}
+
+#[test]
+fn an_error_at_the_border_of_a_block_is_found() {
+    for (output, start) in at_borders(b"Error: why\n") {
+        let found = extracted(&output).and_then(|found| found.stderr_subslice());
+        assert_eq!(found.expect("there is an error").start, start);
+    }
+}
+
+#[test]
+fn a_note_at_the_border_of_a_block_is_found() {
+    for (output, start) in at_borders(b"note: test did not panic as expected\n") {
+        let found = extracted(&output).and_then(|found| found.stdout_subslice());
+        assert_eq!(found.expect("there is a note").start, start);
+    }
+}
+
+#[test]
+fn the_last_panic_of_a_long_block_is_found() {
+    let message = b"thread 'a' panicked at src/lib.rs:1:1:\n";
+    for count in 1..10 {
+        let output = [message.repeat(count), LINE.repeat(100)].concat();
+        let part = heuristic_panic_message(&output).expect("there is a panic");
+        assert_eq!(part.start, (count - 1) * message.len());
+    }
 }

@@ -1,9 +1,9 @@
 //! Words that several kinds of cases share.
 
-use deodarsieve::{ExecutionResult, FlakyResult};
-use deodarsieve_tests::fixtures::{
+use crate::fixtures::{
     EXEC_FAIL, EXIT_ONE, LEAK_FAIL, LEAK_PASS, PASS, TIMEOUT_FAIL, TIMEOUT_PASS,
 };
+use deodarsieve::{CancelReason, ExecutionResult, FlakyResult};
 
 /// Returns the result that a word names.
 pub fn named_result(word: &str) -> Option<ExecutionResult> {
@@ -40,4 +40,22 @@ pub fn earlier_attempts(word: &str) -> Option<&'static [ExecutionResult]> {
 /// Returns the value of `true` and `false`.
 pub fn named_truth(word: &str) -> Option<bool> {
     word.parse().ok()
+}
+
+/// Returns the reason to cancel that a word names, `-` for none.
+pub fn named_reason(word: &str) -> Option<Option<CancelReason>> {
+    let reason = match word {
+        "-" => return Some(None),
+        "setup-script-failure" => CancelReason::SetupScriptFailure,
+        "test-failure" => CancelReason::TestFailure,
+        "report-error" => CancelReason::ReportError,
+        "output-limit" => CancelReason::OutputLimit,
+        "global-timeout" => CancelReason::GlobalTimeout,
+        "test-failure-immediate" => CancelReason::TestFailureImmediate,
+        "signal" => CancelReason::Signal,
+        "interrupt" => CancelReason::Interrupt,
+        "second-signal" => CancelReason::SecondSignal,
+        _ => return None,
+    };
+    Some(Some(reason))
 }

@@ -1,0 +1,67 @@
+//! Replays stored results of nextest's own functions, and worked examples, through the public calls of
+//! the crate.
+//!
+//! `data/upstream_replay.txt.gz` has a case in each line: the name of its kind, a space, and the case.
+//! Each module has the form of its kind of case. A line that begins with `changed` has a case with
+//! another result than nextest's, and a line that begins with `malformed` has no case. These two kinds
+//! show that the replay notices a wrong line.
+
+#[allow(dead_code, reason = "other tests use the other samples")]
+#[path = "../fixtures/mod.rs"]
+mod fixtures;
+
+mod counter;
+mod escapes;
+mod extract;
+mod heads;
+mod hexadecimal;
+mod level;
+mod rows;
+mod unit;
+mod visibility;
+mod words;
+
+use flate2::read::GzDecoder;
+use std::io::Read;
+
+const PACKED: &[u8] = include_bytes!("../data/upstream_replay.txt.gz");
+
+/// Returns true if the crate has the result of a line, or `None` if the line has no case.
+fn agrees_as_it_is(line: &str) -> Option<bool> {
+    let (kind, case) = line.split_once(' ')?;
+    match kind {
+        "counter" => counter::agrees(case),
+        "extract" => extract::agrees(case),
+        "heads" => heads::agrees(case),
+        "level" => level::agrees(case),
+        "row" => rows::agrees(case),
+        "visibility" => visibility::agrees(case),
+        _ => None,
+    }
+}
+
+/// Returns true if a line is as it should be, or `None` if it should have a case and has none.
+fn agrees(line: &str) -> Option<bool> {
+    match line.split_once(' ') {
+        Some(("changed", changed)) => Some(agrees_as_it_is(changed) == Some(false)),
+        Some(("malformed", malformed)) => Some(agrees_as_it_is(malformed).is_none()),
+        _ => agrees_as_it_is(line),
+    }
+}
+
+/// Returns true if the case of a line can be compared with the features that are on.
+fn is_compared(line: &str) -> bool {
+    cfg!(feature = "serde_json") || !line.starts_with("row SerializableError | ")
+}
+
+#[test]
+fn all_lines_agree() {
+    let mut lines = String::new();
+    let read = GzDecoder::new(PACKED).read_to_string(&mut lines);
+    assert!(read.expect("the file is whole") > 0);
+    let wrong: Vec<&str> = lines
+        .lines()
+        .filter(|line| is_compared(line) && agrees(line) != Some(true))
+        .collect();
+    assert!(wrong.is_empty(), "{}", wrong.join("\n"));
+}
