@@ -143,6 +143,8 @@ def _open_fields(source, i):
     brace = source.find(i, "{")
     at = source.after(brace)
     while at != source.partner[brace]:
+        while source.at(at) == "#":
+            at = source.after(source.partner[source.after(at)])
         if source.is_name(at) and source.at(source.after(at)) == ":":
             source.new[at] = "pub(crate) " + source.new[at]
         end = source.find_in(at, source.partner[brace], ",")

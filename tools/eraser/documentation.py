@@ -4,7 +4,7 @@ from pathlib import Path
 
 from .functions import functions_of
 from .scanner import Source
-from .table import ERRORS, LAYER, PACKAGE_OF, PATH_OF, PUBLISHED, WORDS_OF_PROOFS
+from .table import ERRORS, ITEMS_WITH_EXAMPLES, LAYER, PACKAGE_OF, PATH_OF, PUBLISHED, WORDS_OF_PROOFS
 
 EXAMPLES = Path(__file__).resolve().parent / "examples"
 DOCS = ("///", "//!")
@@ -29,18 +29,36 @@ def with_documentation(text, name):
 
 
 def _examples(source, lines):
-    """Puts an example that is written by hand in place of each one of the sources."""
+    """Puts an example that is written by hand in place of each one of the sources, in the layer at an item."""
+    _example_of_item(source, lines)
     fences = [i for i in lines if source.text[i][3:].strip().startswith("```")]
     if not fences:
         return
     crate = source.name.split("/")[0]
     path = EXAMPLES / f"{crate}.rs"
-    if len(fences) != 2 or not path.exists() or not source.name.endswith("/src/lib.rt"):
+    in_layer = PACKAGE_OF[crate] == LAYER
+    if len(fences) != 2 or not (in_layer or path.exists()) or not source.name.endswith("/src/lib.rt"):
         source.refuse(fences[0], f"an example, for which there is no file {path.name}")
-    mark = source.text[fences[0]][:3]
+    if in_layer:
+        blanks = [i for i in lines if i < fences[0] and len(source.text[i]) == 3]
+        source.drop_line(blanks[-2], fences[1])
+        return
+    source.replace(fences[0], fences[1], _example(path, source.text[fences[0]][:3]))
+
+
+def _example_of_item(source, lines):
+    """Puts an example at the end of the documentation of its item, if that is in this file."""
+    for example, (name, words) in ITEMS_WITH_EXAMPLES.items():
+        if name == source.name:
+            item = next(i for i in source.code if source.reads(i, *words.split()))
+            last = max(i for i in lines if i < item)
+            source.new[last] += "\n///\n" + _example(EXAMPLES / f"{example}.rs", "///")
+
+
+def _example(path, mark):
+    """Returns an example as lines of documentation that begin with `mark`."""
     code = path.read_text(encoding="utf-8").splitlines()
-    example = [f"{mark} ```"] + [f"{mark} {line}".rstrip() for line in code] + [f"{mark} ```"]
-    source.replace(fences[0], fences[1], "\n".join(example))
+    return "\n".join(f"{mark} {line}".rstrip() for line in ("```", *code, "```"))
 
 
 def _errors(source, lines):

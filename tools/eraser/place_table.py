@@ -69,6 +69,60 @@ pub struct ExecutionStatusesIter<'a, S: OutputSpec> {
 """,
         "",
     ),
+    # A list that is read keeps its description, which is then a text of its own.
+    (
+        "run_events_attempts/src/child/error_list.rt",
+        """pub struct ErrorList<T> {
+    description: &'static str,
+""",
+        """pub struct ErrorList<T> {
+    description: alloc::borrow::Cow<'static, str>,
+""",
+    ),
+    (
+        "run_events_attempts/src/child/error_list.rt",
+        """            Some(ErrorList {
+                description,
+""",
+        """            Some(ErrorList {
+                description: description.into(),
+""",
+    ),
+    (
+        "run_events_attempts/src/child/error_list.rt",
+        """pub fn description(&self) -> &'static str
+    {
+        self.description
+""",
+        """pub fn description(&self) -> &str
+    {
+        &self.description
+""",
+    ),
+    # The text of captured output is kept after the first call, as in nextest's type. Nothing in `core` can do that for
+    # several threads.
+    (
+        "run_events_attempts/src/child/output.rt",
+        """pub struct ChildSingleOutput {
+    buf: Bytes,
+""",
+        """pub struct ChildSingleOutput {
+    buf: Bytes,
+    #[cfg(feature = "std")]
+    text: crate::KeptText,
+""",
+    ),
+    (
+        "run_events_attempts/src/child/output.rt",
+        "ChildSingleOutput { buf }",
+        """ChildSingleOutput {
+            buf,
+            #[cfg(feature = "std")]
+            text: Default::default(),
+        }""",
+    ),
+    # A cast is older than `cast_unsigned`: this is all that needs a newer Rust than 1.85.
+    ("run_events_results/src/results/failure.rt", "self.code.cast_unsigned()", "self.code as u32"),
     # JSON is behind a feature.
     ("run_events_attempts/src/chain.rt", "mod json;", '#[cfg(feature = "serde_json")]\nmod json;'),
     (

@@ -44,6 +44,7 @@ SERDE = {
     "StressIndex": (BOTH, (KEBAB,)),
     "StressProgress": (BOTH, ('tag = "progress-type"', KEBAB)),
     "StressRunStats": (BOTH, (KEBAB,)),
+    "TestOutputDisplay": (READ, (KEBAB,)),
     "TestSlotAssignment": (BOTH, (KEBAB,)),
 }
 

@@ -44,6 +44,20 @@ BY_HAND = ("run_events_attempts/src/moment.rt",)
 # are examples of contracts, and the text that notes that memory ran out, which is a String.
 NOT_IN_PLAIN_RUST = ("laws", "callers", "noted_text")
 
+# The examples of the layer, each with the file and the first words of the item that shows it: the modules of the layer
+# are private, so their pages are not shown.
+ITEMS_WITH_EXAMPLES = {
+    "output_slice": ("output_slice/src/heuristics.rt", "pub fn heuristic_extract"),
+    "unit_error": ("run_events/src/unit_error.rt", "pub struct UnitErrorDescription"),
+    "statuses": ("run_events_attempts/src/attempts/statuses.rt", "pub struct ExecutionStatuses"),
+    "chain": ("run_events_attempts/src/chain.rt", "pub struct SerializableError"),
+    "levels": ("run_events_results/src/levels.rt", "pub struct StatusLevels"),
+    "results": ("run_events_results/src/results.rt", "pub enum ExecutionResult"),
+    "config": ("run_events_results/src/config.rt", "pub enum TestOutputDisplay"),
+    "run_outcome": ("run_events_stats/src/outcome/run_outcome.rt", "pub enum RunOutcome"),
+    "progress": ("run_events/src/progress.rt", "pub enum StressProgress"),
+}
+
 ATTRIBUTES = ("inline", "default", "derive", "test", "cfg", "repr", "unsafe")
 MACROS = (
     "write", "writeln", "format", "vec", "matches", "unreachable", "assert", "assert_eq", "println",
@@ -82,6 +96,7 @@ IMPORTS = {
 RENAMED_PATHS = {
     "crate::output_slice::is_decimal_digit": "crate::decimal_digits::is_decimal_digit",
     "crate::run_events_attempts::moment::Moment": "crate::moment::Moment",
+    "crate::run_events_attempts::KeptText": "crate::std_impls::KeptText",
 }
 
 # Names of the layer that are written by hand.

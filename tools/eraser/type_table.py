@@ -10,7 +10,6 @@ ADDED_DERIVES = {
     "ChildFdError": EQUAL,
     "ChildOutput": EQUAL,
     "ChildOutputDescription": EQUAL,
-    "ChildSingleOutput": EQUAL,
     "ChildSplitOutput": EQUAL,
     "ChildStartError": EQUAL,
     "ErrorList": ("Clone", "Debug") + EQUAL,
@@ -40,9 +39,11 @@ REMOVED_DERIVES = {"MemorySource": ("Copy",), "UnitErrorDescription": ("Copy",)}
 # Types that cannot be cloned, since they borrow what they write to exclusively.
 NO_CLONE = ("MemorySink",)
 
-# Types whose `Debug` is written by hand: a derived one would go down a chain of causes, or would show the names of
-# private fields, which nextest's types do not have.
-NO_DEBUG = ("NonZeroDuration", "SerializableError", "SerializableErrorSources")
+# Types whose `Debug` is written by hand: a derived one would go down a chain of causes, would write text as numbers or
+# twice, or would show the names of private fields, which nextest's types do not have.
+NO_DEBUG = (
+    "ByteSubslice", "ChildSingleOutput", "NonZeroDuration", "SerializableError", "SerializableErrorSources",
+)
 
 # Types to which cases or fields may be added: those of which nextest says so, and three that nextest does not have.
 NON_EXHAUSTIVE = (
@@ -51,7 +52,7 @@ NON_EXHAUSTIVE = (
 )
 
 # Types whose private fields are visible to the files that are written by hand.
-CRATE_FIELDS = ("ErrorList", "ExecutionStatuses", "UnitErrorDescription")
+CRATE_FIELDS = ("ChildSingleOutput", "ErrorList", "ExecutionStatuses", "UnitErrorDescription")
 
 # Types that get `must_use`, and types of std that have it.
 MUST_USE = ("RunOutcome",)

@@ -67,10 +67,11 @@ def split(text):
 
 
 def pages_of(top):
-    """Returns all pages of the repository, except those in folders of builds."""
+    """Returns all pages of the repository, except those in folders of builds and links to others."""
     found = []
     for path in sorted(Path(top).rglob("*.md")):
         name = path.relative_to(top)
-        if not {"out", "target"} & set(name.parts) and not name.parts[0].startswith("."):
+        is_built = {"out", "target"} & set(name.parts) or name.parts[0].startswith(".")
+        if not is_built and not path.is_symlink():
             found.append(Page(str(name), path.read_text(encoding="utf-8")))
     return found

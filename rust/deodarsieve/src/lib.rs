@@ -11,7 +11,7 @@
 //! The crate also declares the types of all events that reporters receive ([`TestEventKind`]).
 //!
 //! The names and the behaviour are those of the reporter of [nextest](https://nexte.st), except for
-//! the items that `docs/UPSTREAM.md` in the repository lists as different or left out. The modules
+//! the items that the page `UPSTREAM.md` of the package lists as different or left out. The modules
 //! are at nextest's paths, and every name is at the root of the crate too. A few items are not
 //! nextest's. A runner that does not keep the attempts of a test can count it by a [`TestView`],
 //! which borrows the result of the last attempt, or by a [`FinishedTest`], which owns it.
@@ -101,15 +101,16 @@
 //! # Features
 //!
 //! - `std` (default): conversions from `std::process::ExitStatus`, `std::time::SystemTime` and
-//!   `std::io::Error`. Without it the crate is `no_std` and needs `alloc`.
+//!   `std::io::Error`, and [`ChildSingleOutput`]'s `as_str_lossy`. Without it the crate is `no_std` and
+//!   needs `alloc`.
 //! - `serde`: `Serialize` and `Deserialize` for the types that have them in nextest, with the same
 //!   names, and `SerializableOutputSpec`. It turns on `chrono`.
 //! - `serde_json`: `to_value` and `from_value` of [`SerializableError`], to and from JSON values.
 //! - `chrono`: [`Moment`] from `chrono::DateTime` of any time zone, and to `DateTime<FixedOffset>`
 //!   and `DateTime<Utc>`.
 //!
-//! A feature only adds items and implementations of traits. No type and no behaviour changes with a
-//! feature.
+//! A feature only adds items and implementations of traits. No signature and no behaviour changes
+//! with a feature.
 //!
 //! # Panics
 //!

@@ -1,5 +1,8 @@
 //! Instants of the clock.
 
+use core::cmp::Ordering;
+use core::hash::{Hash, Hasher};
+
 /// The number of nanoseconds in a second.
 const NANOSECONDS_PER_SECOND: u32 = 1_000_000_000;
 
@@ -12,8 +15,8 @@ const SECONDS_PER_DAY: i32 = 86_400;
 /// are not counted, as in Unix time. The offset does not change the instant; it says how a reporter
 /// shows it.
 ///
-/// Two moments are equal if their instants and their offsets are equal. They are ordered by
-/// instant, then by offset.
+/// Two moments are equal if their instants are, and they are ordered by instant, as in `chrono`. The
+/// offset does not count.
 ///
 /// # Conversions
 ///
@@ -41,7 +44,7 @@ const SECONDS_PER_DAY: i32 = 86_400;
 /// ```
 ///
 /// [`SystemTime`]: https://doc.rust-lang.org/std/time/struct.SystemTime.html
-#[derive(Clone, Copy, Debug, PartialEq, Eq, PartialOrd, Ord, Hash)]
+#[derive(Clone, Copy, Debug)]
 pub struct Moment {
     unix_seconds: i64,
     subsecond_nanoseconds: u32,
@@ -56,14 +59,14 @@ impl Moment {
         offset_seconds: 0,
     };
 
-    /// The least moment: the earliest instant, at the least offset.
+    /// The earliest instant, at the least offset.
     pub const MIN: Moment = Moment {
         unix_seconds: i64::MIN,
         subsecond_nanoseconds: 0,
         offset_seconds: 1 - SECONDS_PER_DAY,
     };
 
-    /// The greatest moment: the latest instant, at the greatest offset.
+    /// The latest instant, at the greatest offset.
     pub const MAX: Moment = Moment {
         unix_seconds: i64::MAX,
         subsecond_nanoseconds: NANOSECONDS_PER_SECOND - 1,
@@ -155,6 +158,32 @@ impl Moment {
             self.subsecond_nanoseconds,
             offset_seconds,
         )
+    }
+}
+
+impl PartialEq for Moment {
+    fn eq(&self, other: &Self) -> bool {
+        self.unix_nanoseconds() == other.unix_nanoseconds()
+    }
+}
+
+impl Eq for Moment {}
+
+impl PartialOrd for Moment {
+    fn partial_cmp(&self, other: &Self) -> Option<Ordering> {
+        Some(self.cmp(other))
+    }
+}
+
+impl Ord for Moment {
+    fn cmp(&self, other: &Self) -> Ordering {
+        self.unix_nanoseconds().cmp(&other.unix_nanoseconds())
+    }
+}
+
+impl Hash for Moment {
+    fn hash<H: Hasher>(&self, state: &mut H) {
+        self.unix_nanoseconds().hash(state);
     }
 }
 

@@ -29,6 +29,7 @@ fn list(errors: Vec<SerializableError>) -> ErrorList<SerializableError> {
 fn one_error_is_shown_as_itself() {
     let one = list(vec![error("cannot read", &["closed", "gone"])]);
     assert_eq!(one.to_string(), "cannot read");
+    assert_eq!(one.short_message(), "cannot read");
     let source = one.source().expect("the error has a cause");
     assert_eq!(source.to_string(), "closed");
     assert!(list(vec![error("alone", &[])]).source().is_none());
@@ -56,6 +57,10 @@ fn several_errors_are_shown_with_their_causes() {
 ";
     assert_eq!(several.to_string(), text);
     assert!(several.source().is_none());
+    assert_eq!(
+        several.short_message(),
+        "3 errors occurred waiting on the kettle"
+    );
     let boxed: Box<dyn Error> = Box::new(several);
     assert_eq!(boxed.to_string(), text);
 }
@@ -89,10 +94,10 @@ fn messages(error: &dyn Error) -> Vec<String> {
 }
 
 /// The description of a list and the messages of its errors, or `None` if there is no list.
-fn shown(errors: Option<ErrorList<&dyn Error>>) -> Option<(&'static str, Vec<Vec<String>>)> {
+fn shown(errors: Option<ErrorList<&dyn Error>>) -> Option<(String, Vec<Vec<String>>)> {
     errors.map(|errors| {
         let shown = errors.iter().map(|&error| messages(error)).collect();
-        (errors.description(), shown)
+        (String::from(errors.description()), shown)
     })
 }
 
@@ -105,7 +110,7 @@ fn the_errors_of_a_unit_are_errors_of_any_type() {
         .to_vec();
     let abort = vec![String::from("process terminated via job object")];
     let slice = vec![String::from("Error: no")];
-    let list = |errors| Some(("executing test", errors));
+    let list = |errors| Some((String::from("executing test"), errors));
     assert_eq!(
         shown(description.exec_fail_error_list()),
         list(vec![reading.clone()])
@@ -166,7 +171,7 @@ fn the_lists_of_unit_errors_have_the_same_errors() {
             for (typed, errors) in pairs {
                 let typed = typed.as_ref().map(|typed| {
                     let shown = typed.iter().map(|error| messages(error)).collect();
-                    (typed.description(), shown)
+                    (String::from(typed.description()), shown)
                 });
                 assert_eq!(typed, shown(errors));
             }
@@ -233,10 +238,15 @@ mod of_the_system {
     }
 }
 
+#[cfg(feature = "std")]
 #[test]
 fn captured_bytes_are_text() {
     let text = ChildSingleOutput::from(Bytes::from_static("à la carte\n".as_bytes()));
     assert_eq!(text.as_str_lossy(), "à la carte\n");
     let damaged = ChildSingleOutput::from(Bytes::from_static(b"a\xf0\x9f\x92b\xffc"));
-    assert_eq!(damaged.as_str_lossy(), "a\u{fffd}b\u{fffd}c");
+    let lossy = damaged.as_str_lossy();
+    assert_eq!(lossy, "a\u{fffd}b\u{fffd}c");
+    assert!(std::ptr::eq(lossy, damaged.as_str_lossy()));
+    assert_eq!(damaged, ChildSingleOutput::from(damaged.buf().clone()));
+    assert_ne!(damaged, text);
 }

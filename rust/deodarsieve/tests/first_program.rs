@@ -56,8 +56,8 @@ fn an_attempt_that_passed_has_its_output_and_no_errors() {
     else {
         panic!("both streams are there");
     };
-    assert_eq!(stdout.as_str_lossy(), "out");
-    assert_eq!(stderr.as_str_lossy(), "Error: expected\n");
+    assert_eq!(stdout.buf(), "out");
+    assert_eq!(stderr.buf(), "Error: expected\n");
 }
 
 #[test]

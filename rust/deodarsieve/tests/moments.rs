@@ -1,5 +1,8 @@
 //! Moments: values that are refused, comparisons and conversions.
 
+use std::cmp::Ordering;
+use std::collections::HashSet;
+
 use deodarsieve::Moment;
 
 /// One hour, in seconds.
@@ -35,27 +38,27 @@ fn nanoseconds_count_forwards_before_the_epoch() {
 fn every_moment_comes_back_from_its_nanoseconds() {
     for moment in [Moment::MIN, Moment::UNIX_EPOCH, Moment::MAX] {
         let offset = moment.offset_seconds();
-        assert_eq!(
-            Moment::from_unix_nanoseconds(moment.unix_nanoseconds(), offset),
-            Some(moment)
-        );
+        let back = Moment::from_unix_nanoseconds(moment.unix_nanoseconds(), offset);
+        assert_eq!(back, Some(moment));
+        assert_eq!(back.map(Moment::offset_seconds), Some(offset));
     }
 }
 
 #[test]
-fn moments_are_ordered_by_instant_then_by_offset() {
+fn moments_are_compared_by_instant() {
     let mut moments = [
         Moment::MAX,
         Moment::new(1, 0, -HOUR).expect("it is in range"),
         Moment::new(0, 1, 0).expect("it is in range"),
-        Moment::new(0, 0, HOUR).expect("it is in range"),
         Moment::UNIX_EPOCH,
         Moment::MIN,
     ];
     moments.sort();
-    let numbers = moments.map(|moment| (moment.unix_nanoseconds(), moment.offset_seconds()));
-    assert!(numbers.is_sorted());
-    assert_ne!(moments[1], moments[2]);
+    assert!(moments.map(Moment::unix_nanoseconds).is_sorted());
+    let elsewhere = Moment::new(0, 0, HOUR).expect("it is in range");
+    assert_eq!(elsewhere, Moment::UNIX_EPOCH);
+    assert_eq!(elsewhere.cmp(&Moment::UNIX_EPOCH), Ordering::Equal);
+    assert!(HashSet::from([elsewhere]).contains(&Moment::UNIX_EPOCH));
 }
 
 #[test]

@@ -5,8 +5,11 @@ mod common;
 
 use std::time::Duration;
 
+use bytes::Bytes;
 use common::caused;
-use deodarsieve::{NonZeroDuration, SerializableError, TestOutputErrorSlice};
+use deodarsieve::{
+    ByteSubslice, ChildSingleOutput, NonZeroDuration, SerializableError, TestOutputErrorSlice,
+};
 
 /// Types with the names and the fields of nextest's, whose `Debug` is derived.
 mod derived {
@@ -85,6 +88,17 @@ fn a_duration_is_debugged_as_a_tuple() {
         debugged!(derived::NonZeroDuration(span))
     );
     assert_eq!(format!("{duration:?}"), "NonZeroDuration(1.5s)");
+}
+
+#[test]
+fn bytes_are_debugged_as_text() {
+    let slice = b"Error: \"no\"\n";
+    let part = ByteSubslice { slice, start: 3 };
+    let wanted = r#"ByteSubslice { slice: "Error: \"no\"\n", start: 3 }"#;
+    assert_eq!(format!("{part:?}"), wanted);
+    let output = ChildSingleOutput::from(Bytes::from_static(slice));
+    let wanted = r#"ChildSingleOutput { buf: "Error: \"no\"\n" }"#;
+    assert_eq!(format!("{output:?}"), wanted);
 }
 
 #[test]

@@ -19,6 +19,15 @@ impl<'a> TestOutputErrorSlice<'a> {
     /// Pass `None` for a stream that was not captured, and the same bytes twice if both streams were
     /// captured as one. The rules are those of nextest-runner: see [`heuristic_panic_message`],
     /// [`heuristic_error_str`] and [`heuristic_should_panic`].
+    ///
+    /// ```
+    /// use deodarsieve::TestOutputErrorSlice;
+    ///
+    /// let output = b"1 of 2\nthread 'adds' panicked at src/lib.rs:7:5:\nassertion failed\n";
+    /// let slice = TestOutputErrorSlice::heuristic_extract(Some(output), Some(output));
+    /// let text = slice.map(|slice| slice.to_string());
+    /// assert_eq!(text.as_deref(), Some("thread 'adds' panicked at src/lib.rs:7:5:\nassertion failed"));
+    /// ```
     #[must_use]
     pub fn heuristic_extract(stdout: Option<&'a [u8]>, stderr: Option<&'a [u8]>) -> Option<Self> {
         let Some(bytes) = stderr else {

@@ -5,17 +5,6 @@
 //! else for the first line there that begins with `Error: `, or else for the first line in standard
 //! output with `note: test did not panic as expected`, which the harness writes for a test with
 //! `should_panic`. Output is any bytes; it need not be UTF-8.
-//!
-//! If standard output and standard error were captured as one, the same bytes are passed twice:
-//!
-//! ```
-//! use deodarsieve::TestOutputErrorSlice;
-//!
-//! let output = b"1 of 2\nthread 'adds' panicked at src/lib.rs:7:5:\nassertion failed\n";
-//! let slice = TestOutputErrorSlice::heuristic_extract(Some(output), Some(output));
-//! let text = slice.map(|slice| slice.to_string());
-//! assert_eq!(text.as_deref(), Some("thread 'adds' panicked at src/lib.rs:7:5:\nassertion failed"));
-//! ```
 
 pub mod byte_source;
 pub mod first_head;

@@ -6,7 +6,7 @@ use core::fmt;
 use core::num::NonZero;
 
 /// A part of some bytes, and its offset in them.
-#[derive(Clone, Copy, Debug, PartialEq, Eq)]
+#[derive(Clone, Copy, PartialEq, Eq)]
 pub struct ByteSubslice<'a> {
     /// The bytes of the part.
     pub slice: &'a [u8],

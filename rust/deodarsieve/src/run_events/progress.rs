@@ -40,6 +40,22 @@ pub enum StressRemaining {
 }
 
 /// The progress of a repeated run. Reporters get it at the start and at the end of each sub-run.
+///
+/// ```
+/// use core::time::Duration;
+/// use deodarsieve::StressProgress;
+///
+/// fn is_over(progress: &StressProgress) -> bool {
+///     progress.remaining().is_none()
+/// }
+///
+/// let progress = StressProgress::Time {
+///     total: Duration::from_secs(3_600),
+///     elapsed: Duration::from_secs(60),
+///     completed: 1,
+/// };
+/// assert!(!is_over(&progress));
+/// ```
 #[derive(Clone, Copy, Debug, PartialEq, Eq)]
 #[cfg_attr(
     feature = "serde",

@@ -18,6 +18,22 @@ pub use crate::run_events::unit_error::errors::{UnitAbortDescription, UnitError}
 /// The errors of a unit: the error in starting it, the errors in reading from it and waiting for it,
 /// its abort, and the part of a failed test's output that explains its failure. All of them are
 /// borrowed from the output of its process.
+///
+/// ```
+/// use deodarsieve::{
+///     ChildExecutionOutputDescription, LiveSpec, TestOutputErrorSlice, UnitErrorDescription, UnitKind,
+/// };
+///
+/// fn message_of(
+///     output: &ChildExecutionOutputDescription<LiveSpec>,
+/// ) -> Option<TestOutputErrorSlice<'_>> {
+///     if UnitErrorDescription::can_describe(UnitKind::Test, output) {
+///         UnitErrorDescription::new(UnitKind::Test, output).output_slice()
+///     } else {
+///         None
+///     }
+/// }
+/// ```
 #[derive(Clone, Debug)]
 pub struct UnitErrorDescription<'a> {
     pub(crate) kind: UnitKind,

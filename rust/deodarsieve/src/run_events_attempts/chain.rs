@@ -18,6 +18,17 @@ pub use crate::run_events_attempts::chain::json::FromValueError;
 /// It is displayed as its message, without the causes. Two are equal if their messages and all
 /// messages of their causes are equal. It is dropped and compared in loops, so a long chain needs
 /// no stack.
+///
+/// ```
+/// # #[cfg(feature = "serde_json")]
+/// # {
+/// use deodarsieve::SerializableError;
+///
+/// let error = SerializableError::from_message_and_causes("no file".into(), vec!["no disk".into()]);
+/// let text = error.to_value().to_string();
+/// assert_eq!(text, r#"{"causes":["no disk"],"message":"no file"}"#);
+/// # }
+/// ```
 pub struct SerializableError {
     message: String,
     source: Option<Box<SerializableError>>,

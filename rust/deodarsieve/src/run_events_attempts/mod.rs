@@ -4,17 +4,6 @@
 //!
 //! `ExecutionDescription` says whether the test succeeded, was flaky or failed. The module `chain` has the
 //! type of an error with its causes. `Moment` is a point in time, with an offset from UTC.
-//!
-//! A function that returns the result of a test in one word:
-//!
-//! ```
-//! use deodarsieve::{ExecutionStatuses, LiveSpec};
-//!
-//! fn word_of(test: &ExecutionStatuses<LiveSpec>) -> &'static str {
-//!     let last = test.last_status();
-//!     if test.len() > 1 && last.result.is_success() { "flaky" } else { last.result.as_static_str() }
-//! }
-//! ```
 
 pub mod attempts;
 pub mod chain;

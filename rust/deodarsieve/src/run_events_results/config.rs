@@ -49,7 +49,23 @@ pub enum SlowTimeoutResult {
 }
 
 /// When the captured output of a test is displayed.
+///
+/// ```
+/// use deodarsieve::TestOutputDisplay;
+///
+/// fn is_displayed(display: TestOutputDisplay) -> bool {
+///     display.is_immediate() || display.is_final()
+/// }
+///
+/// assert!(is_displayed(TestOutputDisplay::Final));
+/// assert!(!is_displayed(TestOutputDisplay::Never));
+/// ```
 #[derive(Clone, Copy, Debug, PartialEq, Eq)]
+#[cfg_attr(
+    feature = "serde",
+    derive(serde::Deserialize),
+    serde(rename_all = "kebab-case")
+)]
 pub enum TestOutputDisplay {
     /// As soon as the test finishes.
     Immediate,

@@ -3,19 +3,6 @@
 //!
 //! The modules `config`, `run_mode` and `stress` have the settings that decide this, and the numbers of sub-runs. `levels`
 //! ranks how much attention a finished test needs. `view` has what decides about it.
-//!
-//! A function that returns the result of an attempt in one word:
-//!
-//! ```
-//! use deodarsieve::ExecutionResult;
-//!
-//! fn word_of(result: ExecutionResult) -> &'static str {
-//!     if result.is_success() { "ok" } else { result.as_static_str() }
-//! }
-//!
-//! assert_eq!(word_of(ExecutionResult::Pass), "ok");
-//! assert_eq!(word_of(ExecutionResult::ExecFail), "exec-fail");
-//! ```
 
 pub mod config;
 pub mod levels;

@@ -11,6 +11,17 @@ pub use crate::run_events_results::results::failure::{
 };
 
 /// The result of an attempt as the runner saw it: exit codes and signal numbers, without names.
+///
+/// ```
+/// use deodarsieve::ExecutionResult;
+///
+/// fn word_of(result: ExecutionResult) -> &'static str {
+///     if result.is_success() { "ok" } else { result.as_static_str() }
+/// }
+///
+/// assert_eq!(word_of(ExecutionResult::Pass), "ok");
+/// assert_eq!(word_of(ExecutionResult::ExecFail), "exec-fail");
+/// ```
 #[derive(Clone, Copy, Debug, PartialEq, Eq)]
 pub enum ExecutionResult {
     /// The attempt succeeded.

@@ -1,19 +1,15 @@
 //! An attempt from what a runner has of it.
 
-use super::error_lists::text_with_causes;
 use crate::moment::Moment;
 use crate::output_slice::TestOutputErrorSlice;
 use crate::run_events::unit_error::UnitErrorDescription;
-use crate::run_events_attempts::attempts::{
-    ErrorSummary, ExecuteStatus, OutputErrorSlice, RetryData,
-};
+use crate::run_events_attempts::attempts::{ExecuteStatus, OutputErrorSlice, RetryData};
 use crate::run_events_attempts::child::{
     ChildExecutionOutputDescription, ChildOutputDescription, ChildSingleOutput, LiveSpec,
 };
 use crate::run_events_results::results::{ExecutionResultDescription, UnitKind};
-use alloc::string::{String, ToString};
+use alloc::string::ToString;
 use bytes::Bytes;
-use core::error::Error;
 use core::time::Duration;
 
 impl ExecuteStatus<LiveSpec> {
@@ -47,7 +43,7 @@ impl ExecuteStatus<LiveSpec> {
     ///
     /// let mut stats = RunStats::default();
     /// stats.on_test_finished(&ExecutionStatuses::new(vec![attempt], FlakyResult::Pass));
-    /// assert_eq!(stats.failed, 1);
+    /// assert_eq!(stats.failed_count(), 1);
     /// ```
     #[must_use]
     pub fn from_captured(
@@ -67,7 +63,7 @@ impl ExecuteStatus<LiveSpec> {
             errors: None,
         };
         let errors = UnitErrorDescription::new(UnitKind::Test, &output);
-        let error_summary = errors.all_error_list().map(|list| summary_of(&list));
+        let error_summary = errors.all_error_list().map(|list| list.summary());
         let output_error_slice = errors.output_slice().map(OutputErrorSlice::from);
         ExecuteStatus {
             retry_data: RetryData {
@@ -96,16 +92,5 @@ impl From<TestOutputErrorSlice<'_>> for OutputErrorSlice {
                 .expect("each kind has a part")
                 .start,
         }
-    }
-}
-
-/// Returns the first line of an error's text, without a colon at its end, and the text with the
-/// causes.
-fn summary_of(error: &dyn Error) -> ErrorSummary {
-    let text = error.to_string();
-    let first_line = text.lines().next().unwrap_or_default();
-    ErrorSummary {
-        short_message: String::from(first_line.trim_end_matches(':')),
-        description: text_with_causes(error),
     }
 }

@@ -1,7 +1,8 @@
 //! Hand-written methods and traits of [`ErrorList`].
 
+use crate::run_events_attempts::attempts::ErrorSummary;
 use crate::run_events_attempts::child::ErrorList;
-use alloc::string::String;
+use alloc::string::{String, ToString};
 use core::error::Error;
 use core::fmt::{self, Write};
 
@@ -13,6 +14,24 @@ impl<T> ErrorList<T> {
         ErrorList {
             description: self.description,
             errors: self.errors.into_iter().map(convert).collect(),
+        }
+    }
+}
+
+impl<T: Error> ErrorList<T> {
+    /// Returns the first line of the text of the list, without a colon at its end.
+    #[must_use]
+    pub fn short_message(&self) -> String {
+        let text = self.to_string();
+        let first_line = text.lines().next().unwrap_or_default();
+        String::from(first_line.trim_end_matches(':'))
+    }
+
+    /// Returns the messages of the list in one line and in full, with all causes.
+    pub(super) fn summary(&self) -> ErrorSummary {
+        ErrorSummary {
+            short_message: self.short_message(),
+            description: text_with_causes(self),
         }
     }
 }
@@ -86,7 +105,7 @@ impl<T: Error> Error for ErrorList<T> {
 }
 
 /// Returns the text of an error, with each of its causes on a line of its own.
-pub(super) fn text_with_causes(error: &dyn Error) -> String {
+fn text_with_causes(error: &dyn Error) -> String {
     let mut text = String::new();
     write_with_causes(&mut text, error).expect("a `Display` fails only if the writer does");
     text

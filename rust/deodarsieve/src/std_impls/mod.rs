@@ -13,6 +13,7 @@ mod exit_status;
 #[cfg(feature = "std")]
 mod io_errors;
 mod non_zero_duration;
+mod outcomes;
 mod records;
 #[cfg(feature = "serde")]
 pub(crate) mod serde;
@@ -22,3 +23,6 @@ mod signal_names;
 mod system_time;
 mod unit_error_lists;
 mod views;
+
+#[cfg(feature = "std")]
+pub(crate) use captured::KeptText;

@@ -75,17 +75,13 @@ fn lists_of_errors_keep_their_description() {
         UnitKind::WAITING_ON_SCRIPT_MESSAGE,
         UnitKind::EXECUTING_TEST_MESSAGE,
         UnitKind::EXECUTING_SCRIPT_MESSAGE,
-        "in an unknown operation",
+        "watching the pipes",
     ];
     for description in descriptions {
         let list = ErrorList::new(description, vec![caused()]).expect("there is an error");
         let json = format!(r#"{{"description":"{description}","inner":[{CAUSED}]}}"#);
         is_json(&list, &json);
     }
-    let unknown = format!(r#"{{"description":"watching the pipes","inner":[{CAUSED}]}}"#);
-    let read = read::<ErrorList<SerializableError>>(&unknown);
-    assert_eq!(read.description(), "in an unknown operation");
-    assert_eq!(read.iter().as_slice(), [caused()]);
     let empty = refusal::<ErrorList<SerializableError>>(r#"{"description":"a","inner":[]}"#);
     assert!(empty.starts_with("a list of errors is empty"), "{empty}");
 }

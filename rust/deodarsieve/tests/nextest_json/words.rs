@@ -23,6 +23,18 @@ fn settings_are_words() {
     ]);
 }
 
+#[test]
+fn displays_are_read_from_words() {
+    for (word, display) in [
+        ("immediate", TestOutputDisplay::Immediate),
+        ("immediate-final", TestOutputDisplay::ImmediateFinal),
+        ("final", TestOutputDisplay::Final),
+        ("never", TestOutputDisplay::Never),
+    ] {
+        assert_eq!(read::<TestOutputDisplay>(&format!("{word:?}")), display);
+    }
+}
+
 /// Returns the words that a type is read from. An error lists them.
 fn words_of<T: DeserializeOwned + Debug>() -> Vec<String> {
     let refused = refusal::<T>(r#""no-such-word""#);

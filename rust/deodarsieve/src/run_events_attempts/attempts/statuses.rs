@@ -10,6 +10,15 @@ use alloc::vec::Vec;
 
 /// All attempts of a finished test, in order, and how the test counts if it is flaky. There is always
 /// at least one attempt.
+///
+/// ```
+/// use deodarsieve::{ExecutionStatuses, LiveSpec};
+///
+/// fn word_of(test: &ExecutionStatuses<LiveSpec>) -> &'static str {
+///     let last = test.last_status();
+///     if test.len() > 1 && last.result.is_success() { "flaky" } else { last.result.as_static_str() }
+/// }
+/// ```
 #[cfg_attr(
     feature = "serde",
     derive(serde::Serialize),

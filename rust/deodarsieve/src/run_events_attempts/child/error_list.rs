@@ -7,7 +7,7 @@ use core::slice::Iter;
 /// The errors of one operation, with a description of the operation. There is always at least one.
 #[derive(Clone, Debug, PartialEq, Eq)]
 pub struct ErrorList<T> {
-    pub(crate) description: &'static str,
+    pub(crate) description: alloc::borrow::Cow<'static, str>,
     pub(crate) errors: Vec<T>,
 }
 
@@ -19,7 +19,7 @@ impl<T> ErrorList<T> {
             None
         } else {
             Some(ErrorList {
-                description,
+                description: description.into(),
                 errors,
             })
         }
@@ -27,8 +27,8 @@ impl<T> ErrorList<T> {
 
     /// Returns the description of the operation.
     #[must_use]
-    pub fn description(&self) -> &'static str {
-        self.description
+    pub fn description(&self) -> &str {
+        &self.description
     }
 
     /// Returns the number of errors, which is at least 1.

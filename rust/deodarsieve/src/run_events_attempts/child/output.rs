@@ -4,14 +4,20 @@
 use bytes::Bytes;
 
 /// The captured bytes of one stream, or of both streams in one. It is made from `bytes::Bytes`.
-#[derive(Clone, Debug, PartialEq, Eq)]
+#[derive(Clone)]
 pub struct ChildSingleOutput {
-    buf: Bytes,
+    pub(crate) buf: Bytes,
+    #[cfg(feature = "std")]
+    pub(crate) text: crate::std_impls::KeptText,
 }
 
 impl From<Bytes> for ChildSingleOutput {
     fn from(buf: Bytes) -> ChildSingleOutput {
-        ChildSingleOutput { buf }
+        ChildSingleOutput {
+            buf,
+            #[cfg(feature = "std")]
+            text: Default::default(),
+        }
     }
 }
 

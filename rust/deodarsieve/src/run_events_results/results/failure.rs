@@ -185,7 +185,7 @@ struct CodeDigits {
 
 impl fmt::Display for CodeDigits {
     fn fmt(&self, f: &mut fmt::Formatter<'_>) -> fmt::Result {
-        let bits = self.code.cast_unsigned();
+        let bits = self.code as u32;
         write!(f, "{bits:08x}")
     }
 }

@@ -9,6 +9,27 @@ use crate::run_events_stats::stats::{FinishedRun, RunStats};
 ///
 /// From the lowest to the highest, the outcomes are `NoTestsRun`, `Success`, `Cancelled` and `Failed`.
 /// Of two that are cancelled, or of two that failed, the one at a setup script is higher.
+///
+/// ```
+/// use deodarsieve::{FinishedUnit, RunOutcome, RunStart, RunStats};
+///
+/// fn exit_status(units: &[FinishedUnit<'_>], start: RunStart) -> u8 {
+///     let stats = RunStats::of_run(units, start);
+///     match RunOutcome::from_final_stats(stats.summarize_final()) {
+///         RunOutcome::Success => 0,
+///         RunOutcome::NoTestsRun => 4,
+///         RunOutcome::Cancelled { .. } | RunOutcome::Failed { .. } => 100,
+///     }
+/// }
+///
+/// let start = RunStart {
+///     initial_run_count: 0,
+///     setup_scripts_initial_count: 0,
+///     skipped: 0,
+///     cancel_reason: None,
+/// };
+/// assert_eq!(exit_status(&[], start), 4);
+/// ```
 #[derive(Clone, Copy, Debug, PartialEq, Eq)]
 #[must_use]
 pub enum RunOutcome {

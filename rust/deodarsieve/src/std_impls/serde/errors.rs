@@ -2,7 +2,6 @@
 
 use crate::run_events_attempts::chain::SerializableError;
 use crate::run_events_attempts::child::ErrorList;
-use crate::run_events_results::results::UnitKind;
 use ::serde::de::Error;
 use ::serde::{Deserialize, Deserializer, Serialize, Serializer};
 use alloc::string::String;
@@ -47,7 +46,7 @@ impl<'de> Deserialize<'de> for SerializableError {
 /// A list of errors as it is written.
 #[derive(Serialize)]
 struct WrittenList<'a, T> {
-    description: &'static str,
+    description: &'a str,
     inner: &'a [T],
 }
 
@@ -69,27 +68,15 @@ impl<T: Serialize> Serialize for ErrorList<T> {
     }
 }
 
-/// An empty list is an error. A description that [`UnitKind`] has is kept. Any other is read as
-/// `in an unknown operation`, because a list has a description that lives as long as the program.
+/// An empty list is an error.
 impl<'de, T: Deserialize<'de>> Deserialize<'de> for ErrorList<T> {
     fn deserialize<D: Deserializer<'de>>(deserializer: D) -> Result<Self, D::Error> {
         let read = ReadList::deserialize(deserializer)?;
-        ErrorList::new(known_description(&read.description), read.inner)
-            .ok_or_else(|| D::Error::custom("a list of errors is empty"))
+        let list = ErrorList::new("", read.inner)
+            .ok_or_else(|| D::Error::custom("a list of errors is empty"))?;
+        Ok(ErrorList {
+            description: read.description.into(),
+            ..list
+        })
     }
-}
-
-/// The description of a list that was read with a description of another program.
-const UNKNOWN: &str = "in an unknown operation";
-
-/// Returns the description of a unit that equals `text`, or [`UNKNOWN`].
-fn known_description(text: &str) -> &'static str {
-    let known = [
-        UnitKind::WAITING_ON_TEST_MESSAGE,
-        UnitKind::WAITING_ON_SCRIPT_MESSAGE,
-        UnitKind::EXECUTING_TEST_MESSAGE,
-        UnitKind::EXECUTING_SCRIPT_MESSAGE,
-    ];
-    let found = known.into_iter().find(|&message| message == text);
-    found.unwrap_or(UNKNOWN)
 }
