@@ -101,7 +101,7 @@ def _set_derive(source, first, derive, words, name):
     ordered = sorted(words, key=ORDER.index)
     line = f"#[derive({', '.join(ordered)})]" if ordered else ""
     if name in types.NON_EXHAUSTIVE:
-        line += "\n#[non_exhaustive]"
+        line += "\n" + types.NON_EXHAUSTIVE[name]
     if name in types.MUST_USE:
         line += "\n#[must_use]"
     if derive is not None:

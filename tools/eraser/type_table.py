@@ -45,11 +45,12 @@ NO_DEBUG = (
     "ByteSubslice", "ChildSingleOutput", "NonZeroDuration", "SerializableError", "SerializableErrorSources",
 )
 
-# Types to which cases or fields may be added: those of which nextest says so, and three that nextest does not have.
-NON_EXHAUSTIVE = (
-    "AbortDescription", "ExecutionResultDescription", "FailureDescription", "FinalStatusLevel", "StatusLevel",
-    "FromValueError", "TestView", "UnitError",
-)
+# Types to which cases or fields may be added, and the attribute that says so: those of which nextest says so, whose
+# cases nextest's own code matches without an arm for others, and three that nextest does not have.
+NON_EXHAUSTIVE = dict.fromkeys(
+    ("AbortDescription", "ExecutionResultDescription", "FailureDescription", "FinalStatusLevel", "StatusLevel"),
+    '#[cfg_attr(not(feature = "exhaustive"), non_exhaustive)]',
+) | dict.fromkeys(("FromValueError", "TestView", "UnitError"), "#[non_exhaustive]")
 
 # Types whose private fields are visible to the files that are written by hand.
 CRATE_FIELDS = ("ChildSingleOutput", "ErrorList", "ExecutionStatuses", "UnitErrorDescription")
@@ -57,14 +58,6 @@ CRATE_FIELDS = ("ChildSingleOutput", "ErrorList", "ExecutionStatuses", "UnitErro
 # Types that get `must_use`, and types of std that have it.
 MUST_USE = ("RunOutcome",)
 MUST_USE_BY_THEMSELVES = ("ExecutionStatusesIter", "Iter", "Result")
-
-# The last arm of matches in other packages over types that may get more cases: file, function, and its value.
-OTHER_ARMS = {
-    "c_values/src/codes.rt": (
-        ("level_code", 'unreachable!("there is no other level")'),
-        ("final_level_code", 'unreachable!("there is no other level")'),
-    ),
-}
 
 # Methods that have another name in Rust: `source` would hide the method of `std::error::Error`, and the methods with
 # nextest's names return lists with items of another type, so they are written by hand and convert these lists.

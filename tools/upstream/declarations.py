@@ -90,8 +90,8 @@ class Declarations:
         found.visibility = visibility
         for attribute in attributes:
             found.traits |= _derived(attribute)
-            if attribute[0].text in ("non_exhaustive", "must_use"):
-                found.attributes.add(f"#[{attribute[0].text}]")
+            words = {token.text for token in attribute}
+            found.attributes |= {f"#[{word}]" for word in ("non_exhaustive", "must_use") if word in words}
             remote, representation = _of_serde(attribute)
             self.type_of(remote or item[1].text).attributes |= representation
             if remote:

@@ -59,7 +59,6 @@ impl From<&ExecutionResultDescription> for sys::UnitResult {
                 SlowTimeoutResult::Pass => (8, 0),
                 SlowTimeoutResult::Fail => (9, 0),
             },
-            other => unreachable!("the library has no code of {other:?}"),
         };
         Self { kind, number }
     }
@@ -73,9 +72,7 @@ fn failure_codes(failure: &FailureDescription) -> (u32, i32) {
             AbortDescription::UnixSignal { signal, .. } => (4, *signal),
             AbortDescription::WindowsNtStatus { code, .. } => (5, *code),
             AbortDescription::WindowsJobObject => (6, 0),
-            other => unreachable!("the library has no code of {other:?}"),
         },
-        other => unreachable!("the library has no code of {other:?}"),
     }
 }
 

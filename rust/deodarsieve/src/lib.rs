@@ -108,9 +108,11 @@
 //! - `serde_json`: `to_value` and `from_value` of [`SerializableError`], to and from JSON values.
 //! - `chrono`: [`Moment`] from `chrono::DateTime` of any time zone, and to `DateTime<FixedOffset>`
 //!   and `DateTime<Utc>`.
+//! - `exhaustive`: the enums that are `#[non_exhaustive]` in nextest can be matched without an arm for
+//!   other variants, as inside nextest. A new variant is then a breaking change.
 //!
-//! A feature only adds items and implementations of traits. No signature and no behaviour changes
-//! with a feature.
+//! Any other feature only adds items and implementations of traits. No signature and no behaviour
+//! changes with a feature.
 //!
 //! # Panics
 //!

@@ -1,6 +1,6 @@
 //! Each type, matched from outside the crate. The matches are not called: they compile only if
-//! every variant and field that they name is public, if the enums in `open!` are `non_exhaustive`,
-//! and if no other is. `CancelReason` and `RunStats` are not here: the package deodarsieve-c matches
+//! every variant and field that they name is public, if the enums in `open!` are `non_exhaustive`, if
+//! those in `open_without_feature!` are without the feature `exhaustive`, and if no other is. `CancelReason` and `RunStats` are not here: the package deodarsieve-c matches
 //! all variants of the one, and makes the other from all fields.
 #![deny(unreachable_patterns)]
 #![allow(dead_code, reason = "that it compiles is the test")]
@@ -12,6 +12,17 @@ macro_rules! open {
     ($name:ident $(<$life:lifetime>)? { $($pattern:pat),+ $(,)? }) => {
         const _: fn(&$name $(<$life>)?) = |value| match value {
             $($pattern => (),)+
+            _ => (),
+        };
+    };
+}
+
+/// Matches on an enum that may get more variants, unless the feature `exhaustive` is on.
+macro_rules! open_without_feature {
+    ($name:ident { $($pattern:pat),+ $(,)? }) => {
+        const _: fn(&$name) = |value| match value {
+            $($pattern => (),)+
+            #[cfg(not(feature = "exhaustive"))]
             _ => (),
         };
     };
@@ -36,7 +47,7 @@ macro_rules! fields {
     };
 }
 
-open!(AbortDescription {
+open_without_feature!(AbortDescription {
     AbortDescription::UnixSignal { signal: _, name: _ },
     AbortDescription::WindowsNtStatus { code: _, message: _ },
     AbortDescription::WindowsJobObject,
@@ -49,18 +60,18 @@ closed!(AbortStatus {
     AbortStatus::WindowsNtStatus(_),
     AbortStatus::JobObject,
 });
-open!(ExecutionResultDescription {
+open_without_feature!(ExecutionResultDescription {
     ExecutionResultDescription::Pass,
     ExecutionResultDescription::Leak { result: _ },
     ExecutionResultDescription::Fail { failure: _, leaked: _ },
     ExecutionResultDescription::ExecFail,
     ExecutionResultDescription::Timeout { result: _ },
 });
-open!(FailureDescription {
+open_without_feature!(FailureDescription {
     FailureDescription::ExitCode { code: _ },
     FailureDescription::Abort { abort: _ },
 });
-open!(FinalStatusLevel {
+open_without_feature!(FinalStatusLevel {
     FinalStatusLevel::None,
     FinalStatusLevel::Fail,
     FinalStatusLevel::Flaky,
@@ -78,7 +89,7 @@ open!(FromValueError {
     FromValueError::CausesNotAList,
     FromValueError::CauseNotText { index: _ },
 });
-open!(StatusLevel {
+open_without_feature!(StatusLevel {
     StatusLevel::None,
     StatusLevel::Fail,
     StatusLevel::Retry,
@@ -382,7 +393,11 @@ const _: fn(&TestView<'static>) = |value| {
 fn the_open_enums_are_those_that_the_promises_list() {
     let mut matched: Vec<_> = include_str!("outside.rs")
         .lines()
-        .filter_map(|line| line.strip_prefix("open!("))
+        .filter_map(|line| line.strip_prefix("open"))
+        .filter_map(|line| {
+            line.trim_start_matches("_without_feature")
+                .strip_prefix("!(")
+        })
         .filter_map(|line| line.split(|c: char| !c.is_alphanumeric()).next())
         .collect();
     matched.sort_unstable();

@@ -174,7 +174,6 @@ pub fn level_code(level: StatusLevel) -> u32 {
         StatusLevel::Pass => 5,
         StatusLevel::Skip => 6,
         StatusLevel::All => 7,
-        _ => unreachable!("there is no other level"),
     }
 }
 
@@ -189,7 +188,6 @@ pub fn final_level_code(level: FinalStatusLevel) -> u32 {
         FinalStatusLevel::Leak => 5,
         FinalStatusLevel::Pass => 6,
         FinalStatusLevel::All => 7,
-        _ => unreachable!("there is no other level"),
     }
 }
 

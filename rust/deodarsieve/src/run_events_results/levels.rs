@@ -7,7 +7,7 @@ mod output;
 /// The level of a finished attempt or test, ordered from the one that needs most attention. A
 /// reporter with a level writes a line for the tests of that level and of every lesser level.
 #[derive(Clone, Copy, Debug, PartialEq, Eq, PartialOrd, Ord)]
-#[non_exhaustive]
+#[cfg_attr(not(feature = "exhaustive"), non_exhaustive)]
 #[cfg_attr(
     feature = "serde",
     derive(serde::Deserialize),
@@ -43,7 +43,7 @@ pub enum StatusLevel {
 /// The level of a finished test at the end of the run, ordered from the one that needs most
 /// attention. A reporter with a level lists the tests of that level and of every lesser level.
 #[derive(Clone, Copy, Debug, PartialEq, Eq, PartialOrd, Ord)]
-#[non_exhaustive]
+#[cfg_attr(not(feature = "exhaustive"), non_exhaustive)]
 #[cfg_attr(
     feature = "serde",
     derive(serde::Deserialize),

@@ -92,7 +92,7 @@ impl ExecutionResult {
 /// The result of an attempt as reporters get it: an [`ExecutionResult`] with the name of a signal or
 /// the message of a Windows status code.
 #[derive(Clone, Debug, PartialEq, Eq)]
-#[non_exhaustive]
+#[cfg_attr(not(feature = "exhaustive"), non_exhaustive)]
 #[cfg_attr(
     feature = "serde",
     derive(serde::Serialize, serde::Deserialize),

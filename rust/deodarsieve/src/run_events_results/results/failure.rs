@@ -49,7 +49,7 @@ impl fmt::Debug for AbortStatus {
 /// The exit code or the abort of a failed process, displayed for example as `exited with code 3` or
 /// as the text of its [`AbortDescription`].
 #[derive(Clone, Debug, PartialEq, Eq)]
-#[non_exhaustive]
+#[cfg_attr(not(feature = "exhaustive"), non_exhaustive)]
 #[cfg_attr(
     feature = "serde",
     derive(serde::Serialize, serde::Deserialize),
@@ -98,7 +98,7 @@ impl fmt::Display for FailureDescription {
 /// It is displayed as `aborted with signal 15 (SIGTERM)`, `aborted with code 0xc0000005: message` or
 /// `terminated via job object`. A name or a message that is `None` is left out.
 #[derive(Clone, Debug, PartialEq, Eq)]
-#[non_exhaustive]
+#[cfg_attr(not(feature = "exhaustive"), non_exhaustive)]
 #[cfg_attr(
     feature = "serde",
     derive(serde::Serialize, serde::Deserialize),
