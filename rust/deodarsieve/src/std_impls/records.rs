@@ -43,32 +43,18 @@ macro_rules! by_fields {
     };
 }
 
-by_fields!(ExecuteStatus {
-    retry_data,
-    output,
-    result,
-    start_time,
-    time_taken,
-    is_slow,
-    delay_before_start,
-    error_summary,
-    output_error_slice,
-});
+by_fields! { ExecuteStatus {
+    retry_data, output, result, start_time, time_taken, is_slow, delay_before_start,
+    error_summary, output_error_slice,
+} }
 
-by_fields!(SetupScriptExecuteStatus {
-    output,
-    result,
-    start_time,
-    time_taken,
-    is_slow,
-    env_map,
-    error_summary,
-});
+by_fields! { SetupScriptExecuteStatus {
+    output, result, start_time, time_taken, is_slow, env_map, error_summary,
+} }
 
-by_fields!(ExecutionStatuses {
-    statuses,
-    flaky_result,
-});
+by_fields! { ExecutionStatuses {
+    statuses, flaky_result,
+} }
 
 impl<'a, S: OutputSpec> IntoIterator for &'a ExecutionStatuses<S> {
     type Item = &'a ExecuteStatus<S>;
@@ -126,12 +112,17 @@ where
 
 impl<S: OutputSpec> Eq for ChildExecutionOutputDescription<S> where S::ChildOutputDesc: Eq {}
 
-/// Writes a variant with named fields as a derived `Debug` does.
-macro_rules! debug_variant {
-    ($f:ident, $name:ident { $($field:ident),* }) => {
-        $f.debug_struct(stringify!($name))
-            $(.field(stringify!($field), $field))*
-            .finish()
+/// Writes an enum by the fields of its variants, as a derived `Debug` does. A variant without names has
+/// an arm of its own.
+macro_rules! debug_by_fields {
+    ($value:ident, $f:ident, $($name:ident { $($field:ident),* })* $(; $pattern:pat => $written:expr)?) => {
+        match $value {
+            $(Self::$name { $($field),* } => $f
+                .debug_struct(stringify!($name))
+                $(.field(stringify!($field), $field))*
+                .finish(),)*
+            $($pattern => $written,)?
+        }
     };
 }
 
@@ -140,20 +131,10 @@ where
     S::ChildOutputDesc: fmt::Debug,
 {
     fn fmt(&self, f: &mut fmt::Formatter<'_>) -> fmt::Result {
-        match self {
-            Self::Output {
-                result,
-                output,
-                errors,
-            } => debug_variant!(
-                f,
-                Output {
-                    result,
-                    output,
-                    errors
-                }
-            ),
-            Self::StartError(error) => f.debug_tuple("StartError").field(error).finish(),
+        debug_by_fields! {
+            self, f,
+            Output { result, output, errors };
+            Self::StartError(error) => f.debug_tuple("StartError").field(error).finish()
         }
     }
 }
@@ -163,32 +144,11 @@ where
     S::ChildOutputDesc: fmt::Debug,
 {
     fn fmt(&self, f: &mut fmt::Formatter<'_>) -> fmt::Result {
-        match self {
-            Self::Success { single_status } => debug_variant!(f, Success { single_status }),
-            Self::Flaky {
-                last_status,
-                prior_statuses,
-                result,
-            } => debug_variant!(
-                f,
-                Flaky {
-                    last_status,
-                    prior_statuses,
-                    result
-                }
-            ),
-            Self::Failure {
-                first_status,
-                last_status,
-                retries,
-            } => debug_variant!(
-                f,
-                Failure {
-                    first_status,
-                    last_status,
-                    retries
-                }
-            ),
+        debug_by_fields! {
+            self, f,
+            Success { single_status }
+            Flaky { last_status, prior_statuses, result }
+            Failure { first_status, last_status, retries }
         }
     }
 }
