@@ -1,4 +1,4 @@
-"""Compares nextest's declarations with the crate's, and writes the tables of docs/UPSTREAM.md."""
+"""Compares nextest's declarations with the crate's, and writes the tables of rust/deodarsieve/UPSTREAM.md."""
 
 import re
 from collections import Counter

@@ -7,7 +7,7 @@ const DIFFERENCES: &str = include_str!("../../../docs/DIFFERENCES.md");
 const GLOSSARY: &str = include_str!("../../../docs/GLOSSARY.md");
 const RUN_DIGEST: &str = include_str!("../../../docs/RUN-DIGEST.md");
 const SEMVER: &str = include_str!("../../deodarsieve/SEMVER.md");
-const UPSTREAM: &str = include_str!("../../../docs/UPSTREAM.md");
+const UPSTREAM: &str = include_str!("../../deodarsieve/UPSTREAM.md");
 
 /// Returns the line of a table that begins with a type or another entry.
 fn row<'a>(page: &'a str, entry: &str) -> &'a str {
