@@ -145,16 +145,38 @@ fn the_folder_is_that_of_cargo_and_a_saved_run_is_not_kept() {
     assert!(messages.contains(list), "{messages}");
 }
 
+/// Returns the programs of the list of failed tests in a target folder.
+fn list(folder: &Folder, target: &str) -> Value {
+    let list = fs::read_to_string(folder.file(&format!("{target}/test-report/failed")));
+    let mut list: Value = serde_json::from_str(&list.expect("it is written")).expect("it is JSON");
+    list["programs"].take()
+}
+
 #[test]
 fn a_run_that_is_stopped_leaves_the_programs_that_did_not_start() {
-    let folder = Folder::new("stopped");
+    // Of a cargo that is killed nothing is cancelled.
+    for (name, kill) in [("stopped", "TERM $1"), ("killed", "KILL $(cat cargo_id)")] {
+        leave_programs_that_did_not_start(name, kill);
+    }
+}
+
+/// Stops a run while a test waits. `kill` gets the arguments that say which signal it sends to whom; `$1` is the number of the
+/// process. Asserts that `--failed` then runs the programs that did not start.
+fn leave_programs_that_did_not_start(name: &str, kill: &str) {
+    let folder = Folder::new(name);
+    let script = format!(
+        "#!/bin/sh\necho $$ >\"{}\"\nexec \"{}\" \"$@\"\n",
+        folder.file("cargo_id"),
+        env!("CARGO")
+    );
+    let cargo = folder.script("cargo", &script);
     folder.write(&WATCHED);
     folder.write(&[
         ("money/tests/a.rs", "#[test]\nfn waits() {\n    std::fs::write(\"../waits\", \"\").unwrap();\n    \
                               std::thread::sleep(std::time::Duration::from_secs(60));\n}\n\n#[test]\nfn a_passes() {}\n"),
         ("money/tests/b.rs", "#[test]\nfn later() {}\n"),
     ]);
-    let arguments = ["--", env!("CARGO"), "test", "--", "--test-threads=1"];
+    let arguments = ["--", &cargo, "test", "--", "--test-threads=1"];
     let mut command = command("test-report", &arguments);
     let command = as_user(&mut command, &folder.0).current_dir(folder.file("money"));
     let running = common::started(command);
@@ -164,17 +186,15 @@ fn a_run_that_is_stopped_leaves_the_programs_that_did_not_start() {
             std::thread::sleep(std::time::Duration::from_millis(20));
         }
     });
-    let script = format!("kill -s TERM {}", running.child.id());
-    Command::new("sh")
-        .args(["-c", &script])
-        .status()
-        .expect("a shell runs");
+    let script = format!("kill -s {kill}");
+    let mut shell = Command::new("sh");
+    shell.args(["-c", &script, "sh", &running.child.id().to_string()]);
+    let status = shell.current_dir(&folder.0).status();
+    assert!(status.expect("a shell runs").success(), "{script}");
     let (mut child, stdout) = (running.child, running.stdout);
     common::soon("the report", move || std::io::read_to_string(stdout)).expect("it is UTF-8");
     child.wait().expect("it ends");
-    let list = fs::read_to_string(folder.file("money/target/test-report/failed"));
-    let list: Value = serde_json::from_str(&list.expect("it is written")).expect("it is JSON");
-    let list = &list["programs"];
+    let list = list(&folder, "money/target");
     assert_eq!(list["money"]["only"], serde_json::json!(["fails"]));
     assert_eq!(list["money::a"]["except"], serde_json::json!(["a_passes"]));
     assert_eq!(
@@ -196,6 +216,57 @@ fn a_run_that_is_stopped_leaves_the_programs_that_did_not_start() {
         .filter(|it| it["type"] == "program" && it["event"] == "started");
     let started: Vec<_> = started.map(|program| &program["name"]).collect();
     assert_eq!(started, ["money::b"]);
+}
+
+#[test]
+fn a_run_whose_reader_goes_away_is_kept_and_so_are_its_failed_tests() {
+    let folder = Folder::new("reader");
+    let source = r#"#[test]
+fn a_fails() {
+    panic!();
+}
+
+#[test]
+fn b_passes() {
+    while !std::path::Path::new("../gone").exists() {
+        std::thread::sleep(std::time::Duration::from_millis(20));
+    }
+}
+
+#[test]
+fn c_fails() {
+    panic!();
+}
+
+#[test]
+fn d_waits() {
+    std::thread::sleep(std::time::Duration::from_secs(60));
+}
+"#;
+    folder.write(&WATCHED);
+    folder.write(&[
+        ("money/src/lib.rs", source),
+        ("money/tests/z.rs", "#[test]\nfn later() {}\n"),
+    ]);
+    let arguments = ["--", env!("CARGO"), "test", "--", "--test-threads=1"];
+    let mut command = command("test-report", &arguments);
+    let command = as_user(&mut command, &folder.0).current_dir(folder.file("money"));
+    let running = common::started(command);
+    drop(common::wait_for(running.stdout, "\n"));
+    fs::write(folder.file("gone"), "").expect("the folder is there");
+    let mut child = running.child;
+    let status = common::soon("the end", move || child.wait()).expect("it ends");
+    assert_eq!(status.code(), Some(3));
+    let wanted = serde_json::json!({
+        "money": {"tests": 4, "except": ["b_passes"], "failed": ["a_fails", "c_fails"]},
+        "money::z": {"tests": null, "except": []},
+    });
+    assert_eq!(list(&folder, "money/target"), wanted);
+    let kept = kept(&folder, "money/target");
+    assert!(kept.iter().any(|line| line.contains("a_fails")), "{kept:?}");
+    let again = report(&folder, "money", &["target/test-report/last.jsonl"]);
+    let text = String::from_utf8_lossy(&again.stdout);
+    assert!(text.contains("the run was cut off"), "{text}");
 }
 
 #[test]

@@ -75,12 +75,12 @@ impl FailedList {
         self.tests.take_missing(missing);
     }
 
-    /// Writes the list at the end of a run. If the run was cancelled, the programs that did not start are to run. Of the
+    /// Writes the list at the end of a run. Unless `is_whole` is true, the programs that did not start are to run. Of the
     /// other programs the list stays as another run may have written it meanwhile.
     ///
     /// Fails if the list cannot be written.
-    pub(super) fn finish(mut self, results: &TestResults, is_cancelled: bool) -> io::Result<()> {
-        if is_cancelled && !self.is_rerun {
+    pub(super) fn finish(mut self, results: &TestResults, is_whole: bool) -> io::Result<()> {
+        if !is_whole && !self.is_rerun {
             let not_started = self
                 .programs
                 .iter()
@@ -115,7 +115,7 @@ mod tests {
             list
         });
         for list in lists {
-            let written = list.finish(&TestResults::default(), false);
+            let written = list.finish(&TestResults::default(), true);
             written.expect("it can be written");
         }
         let list = FailedTests::read(folder.path()).expect("it can be read");

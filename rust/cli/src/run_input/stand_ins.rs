@@ -23,29 +23,52 @@ use crate::report::missing_words;
 use deodarsieve::CancelReason;
 use deodarsieve_run::{CommandEnd, Line};
 use std::collections::BTreeSet;
-use std::io::Write;
+use std::io::{self, Write};
 use std::mem;
 use std::time::{Duration, Instant};
 
 /// The message if only the tests that failed last were to run, and their list cannot be found.
 const NO_FOLDER: &str = "cargo does not say where the list of failed tests is, so all tests run";
 
+/// The last line of a run, if nobody knows how the command ended.
+const LAST_LINE: &[u8] = br#"{"type":"command","event":"ended"}"#;
+
 /// The front of the message if the file of that list has none.
 const UNREADABLE: &str = "the list of the failed tests cannot be read";
 
 impl<W: Write> RunReader<'_, '_, W> {
-    /// Builds the tests of a command, and runs it with stand-ins. The last line of the run says how it ended. The run is kept
-    /// in cargo's target folder, unless it is saved, and so is the list of the tests that failed.
+    /// Builds the tests of a command, and runs it with stand-ins. The run is kept in cargo's target folder, unless it is saved,
+    /// and so is the list of the tests that failed, even if nobody reads the report any more.
     pub(super) fn run_with_stand_ins(
         &mut self,
         prepared: &Prepared,
         stand_in: &StandIn,
     ) -> Result<(), Failure> {
-        let mut file = ProgramsFile::create()?;
         if self.streams.saved.is_none() {
             self.kept = Some(KeptRun::new(MOST_KEPT));
         }
         self.report.collect_results(stand_in.measures);
+        let end = self.run_to_end(prepared, stand_in);
+        let has_finished = matches!(
+            end,
+            Ok(CommandEnd::Status { .. } | CommandEnd::Error { .. })
+        );
+        if end.is_err() {
+            // This ends the program that runs.
+            let _ = (self.report).on_line(LAST_LINE, &mut io::sink(), &mut io::sink());
+            self.take_results();
+        }
+        self.keep(has_finished && self.cancelled.is_none());
+        end.map(drop)
+    }
+
+    /// Does the same up to the last line of the run, which says how the command ended. Returns that.
+    fn run_to_end(
+        &mut self,
+        prepared: &Prepared,
+        stand_in: &StandIn,
+    ) -> Result<CommandEnd, Failure> {
+        let mut file = ProgramsFile::create()?;
         self.take_command_line(CommandLine::Started)?;
         let (end, error) = self.build_and_watch(prepared, stand_in, &mut file)?;
         self.note_cancel_in_run()?;
@@ -55,8 +78,7 @@ impl<W: Write> RunReader<'_, '_, W> {
             error,
             time: time.map(in_seconds),
         })?;
-        self.keep();
-        Ok(())
+        Ok(end)
     }
 
     /// Builds the tests of a command if cargo can do that alone, and runs it if that succeeds. What the compiler says is part
@@ -135,16 +157,16 @@ impl<W: Write> RunReader<'_, '_, W> {
         selected
     }
 
-    /// Ends the kept run, and writes the list of the tests that failed. If that fails, says so.
-    fn keep(&mut self) {
+    /// Ends the kept run, and writes the list of the tests that failed. If that fails, says so. `is_whole` is true if all
+    /// programs ran that were to run.
+    fn keep(&mut self, is_whole: bool) {
         let (kept, failed) = (self.kept.take(), self.failed.take());
         let _held = self.interrupt.hold();
         if let Some(message) = kept.and_then(KeptRun::finish) {
             self.say(&message);
         }
-        let is_cancelled = self.cancelled.is_some();
         if let (Some(failed), Some(results)) = (failed, self.report.results())
-            && let Err(error) = failed.finish(results, is_cancelled)
+            && let Err(error) = failed.finish(results, is_whole)
         {
             self.say(&format!(
                 "the list of the failed tests cannot be written: {error}"
