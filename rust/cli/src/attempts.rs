@@ -1,7 +1,13 @@
-//! The output of a flaky test: the outputs of its attempts one below another, each after a line with its number.
+//! The names and the outputs of tests that had several attempts.
+//!
+//! The name in the line of an end may end with `#` and the number of attempts. The output of a flaky test has the outputs of
+//! its attempts one below another, each after a line with its number.
 //!
 //! A stand-in that runs failed tests again writes this output, and the report divides it. A test can print such a line, too.
 //! Then only its own output is divided elsewhere.
+
+/// The most attempts that a line can name.
+pub const MOST_ATTEMPTS: usize = 1_000;
 
 /// The outputs of the attempts of a test that passed.
 #[derive(Debug, PartialEq, Eq)]
@@ -36,6 +42,19 @@ impl<'a> AttemptOutputs<'a> {
             failed,
             passed: last.map(|(_, passed)| passed),
         }
+    }
+}
+
+/// Returns the name of a test without the number of attempts at its end, which is the same one that the run finds there: from
+/// 2 to 1,000, without a sign or a leading zero.
+pub fn without_attempts(name: &str) -> &str {
+    let is_number = |digits: &str| {
+        let number = digits.parse();
+        !digits.starts_with(['+', '0']) && number.is_ok_and(|it| (2..=MOST_ATTEMPTS).contains(&it))
+    };
+    match name.rsplit_once('#') {
+        Some((test, digits)) if is_number(digits) => test,
+        Some(_) | None => name,
     }
 }
 
@@ -105,6 +124,24 @@ mod tests {
             text,
             "--- ATTEMPT 1 FAILED ---\na\n--- ATTEMPT 2 PASSED ---\nb"
         );
+    }
+
+    #[test]
+    fn a_name_may_end_with_a_number_of_attempts() {
+        for (name, test) in [
+            ("a", "a"),
+            ("a#2", "a"),
+            ("a#2#1000", "a#2"),
+            ("#3", ""),
+            ("a#1", "a#1"),
+            ("a#1001", "a#1001"),
+            ("a#02", "a#02"),
+            ("a#+2", "a#+2"),
+            ("a#", "a#"),
+            ("a#2 ", "a#2 "),
+        ] {
+            assert_eq!(without_attempts(name), test, "{name}");
+        }
     }
 
     #[test]

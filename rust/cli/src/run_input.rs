@@ -2,6 +2,7 @@
 
 use self::failed_list::FailedList;
 use crate::command::prepared::Prepared;
+use crate::command::programs::Retries;
 use crate::interrupt::Interrupt;
 use crate::kept_run::KeptRun;
 use crate::lines::Lines;
@@ -190,6 +191,9 @@ pub struct RunReader<'a, 'line, W: Write> {
     /// Why the run is cancelled, as far as the report knows. It forgets this at the end of a file.
     cancelled: Option<CancelReason>,
 
+    /// How often stand-ins run failed tests again.
+    retries: Retries,
+
     /// True while stand-ins may hold failed tests back.
     are_held: bool,
 
@@ -234,6 +238,7 @@ impl<'a, 'line, W: Write> RunReader<'a, 'line, W> {
             pass_on,
             interrupt,
             cancelled: None,
+            retries: Retries::default(),
             are_held: false,
             interrupted: None,
             shows_progress,

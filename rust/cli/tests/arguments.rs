@@ -76,6 +76,12 @@ fn test_report_refuses_numbers() {
         let message = format!("test-report: {option} {value}: {what}\n");
         assert_output(&output, b"", message.as_bytes(), 2, &message);
     }
+    // The lines of a run have numbers of attempts up to 1,000.
+    let output = run("test-report", &["--retries", "1000"], PASSED.as_bytes());
+    let message = String::from_utf8_lossy(&output.stderr);
+    let why = "value '1000' for '--retries <N>': 1000 is not in 0..=999\n";
+    assert!(message.contains(why), "{message}");
+    assert_eq!(output.status.code(), Some(2));
 }
 
 #[test]

@@ -342,6 +342,15 @@ fn nothing_runs_again_if_too_many_tests_failed_or_the_program_crashed() {
     assert_eq!(runs(&folder, "many").len(), 11);
     assert_eq!(runs(&folder, "fails").len(), 1);
     assert!(!text.contains("attempts"), "{text}");
+    let said = |output: &Output| {
+        let text = String::from_utf8_lossy(&output.stderr).into_owned();
+        let own = text
+            .lines()
+            .filter(|line| line.starts_with("test-report: "));
+        own.map(String::from).collect::<Vec<_>>()
+    };
+    let why = "test-report: money::many: 11 tests failed, so none ran again (--retries-max 10)";
+    assert_eq!(said(&output), [why]);
     let output = report(
         &folder,
         &["--retries", "1", "--retries-max", "11"],
@@ -350,6 +359,7 @@ fn nothing_runs_again_if_too_many_tests_failed_or_the_program_crashed() {
     let text = String::from_utf8_lossy(&output.stdout).into_owned();
     assert_eq!(runs(&folder, "many").len(), 33, "{text}");
     assert_eq!(numbers(&folder), [11, 0, 0, 11], "{text}");
+    assert_eq!(said(&output), [""; 0]);
 }
 
 /// Runs `test-report` for the tests of a file, one after the other, in a process group of its own, until a test has

@@ -188,7 +188,7 @@ impl FailedTests {
 }
 
 /// Returns a number and what is counted.
-fn counted(number: u64, what: &str) -> String {
+pub(super) fn counted(number: u64, what: &str) -> String {
     let end = if number == 1 { "" } else { "s" };
     format!("{number} {what}{end}")
 }

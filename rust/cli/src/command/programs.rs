@@ -1,6 +1,6 @@
 //! What the stand-ins of a run are told, in a file: the test programs, and which of their tests run how often.
 
-use super::failed_tests::FailedTests;
+use super::failed_tests::{FailedTests, counted};
 use super::run_line::StartedProgram;
 use crate::program::{DEVICE_FAILED, Failure};
 use serde::{Deserialize, Serialize};
@@ -77,6 +77,16 @@ pub struct Retries {
     pub most: usize,
 }
 
+impl Retries {
+    /// Returns why no test of a program runs again, if too many of its tests failed.
+    pub fn why_none(self, failed: usize) -> Option<String> {
+        let Retries { count, most } = self;
+        let tests = counted(failed as u64, "test");
+        let why = || format!("{tests} failed, so none ran again (--retries-max {most})");
+        (count > 0 && failed > most).then(why)
+    }
+}
+
 impl Plan {
     /// Returns what this stand-in is told. Without a file that is nothing.
     pub fn given() -> Plan {
@@ -144,6 +154,17 @@ fn read_plan(file: &Path) -> io::Result<Plan> {
 #[cfg(test)]
 mod tests {
     use super::*;
+
+    #[test]
+    fn nothing_runs_again_above_the_limit() {
+        let why = |count, most, failed| Retries { count, most }.why_none(failed);
+        let one = "1 test failed, so none ran again (--retries-max 0)";
+        assert_eq!(why(2, 0, 1).as_deref(), Some(one));
+        assert_eq!(
+            [why(2, 0, 0), why(2, 3, 3), why(0, 3, 4)],
+            [None, None, None]
+        );
+    }
 
     #[test]
     fn what_is_written_is_read_and_the_file_is_removed() {

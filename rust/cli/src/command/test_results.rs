@@ -1,6 +1,7 @@
 //! Learns from the lines of a run what became of the tests of each program.
 
 use super::failed_tests::ProgramResults;
+use crate::attempts::without_attempts;
 use deodarsieve_run::{Event, Line, ProgramEnd, ProgramLine, TestResult};
 use serde::Deserialize;
 use std::collections::BTreeSet;
@@ -149,10 +150,7 @@ impl OpenProgram {
         if self.running.remove(name) {
             return name.to_string();
         }
-        let test = match name.rsplit_once('#') {
-            Some((test, number)) if number.parse::<u64>().is_ok() => test,
-            _ => name,
-        };
+        let test = without_attempts(name);
         self.running.remove(test);
         test.to_string()
     }
@@ -236,10 +234,11 @@ mod tests {
             test("d", "d#3", "failed"),
             test("e", "e#2", "ok"),
             test("f#2", "f#2", "failed"),
+            test("g", "g#1001", "failed"),
         ];
         let found = result(&[STARTED, &tests.concat(), LAST, &ended("\"status\":101")]);
         let wanted = ProgramResults {
-            failed: names("a d f#2"),
+            failed: names("a d f#2 g g#1001"),
             done: names("b e"),
             ignored: names("c"),
             is_complete: true,

@@ -1,7 +1,12 @@
 //! The options of a report. `-h` shows those that people use most, with `help`; `--help` shows all, with `long_help` if an
 //! option has it. The completions have `help`, so that is one line.
 
+use crate::attempts::MOST_ATTEMPTS;
+use clap::builder::RangedU64ValueParser;
 use clap::{Arg, ArgAction, Command, ValueHint, value_parser};
+
+/// The most that `--retries` takes: a line of the run has a number of attempts.
+const MOST_RETRIES: u64 = MOST_ATTEMPTS as u64 - 1;
 
 /// The values of `--format`.
 const FORMS: [&str; 7] = [
@@ -88,8 +93,9 @@ fn most_used() -> [Arg; 10] {
             .help("Run only the tests that did not pass last time")
             .long_help("Run only the tests that failed, crashed, were stopped or did not run last time; all tests if there are none. target/test-report/failed has their names"),
         number("retries", "N")
+            .value_parser(RangedU64ValueParser::<usize>::new().range(..=MOST_RETRIES))
             .help("Run a failed test again, up to N times")
-            .long_help("Run a failed test again, alone, up to N times. If it passes then, it is flaky, and counts as passed. A program that crashed is not run again [default: 0]"),
+            .long_help("Run a failed test again, alone, up to N times (at most 999), when its program ends, and show it then. If it passes, it is flaky, and counts as passed. A program that crashed is not run again [default: 0]"),
         file("compare")
             .help("Say which failures are new since the run in FILE")
             .long_help("Say how many failures are new, still there or fixed since the run in FILE, which --save or --json wrote"),

@@ -40,7 +40,8 @@ impl<W: Write> RunReader<'_, '_, W> {
             .set_errors_are_passed_on(self.pass_on.of_command());
         match &prepared.stand_in {
             Some(stand_in) => {
-                self.are_held = stand_in.again.retries.count > 0;
+                self.retries = stand_in.again.retries;
+                self.are_held = self.retries.count > 0;
                 self.run_with_stand_ins(prepared, stand_in)?;
                 Ok(None)
             }

@@ -111,7 +111,7 @@ impl<W: Write> RunReader<'_, '_, W> {
         file.write(&Plan {
             programs,
             failed,
-            retries: stand_in.again.retries,
+            retries: self.retries,
         })?;
         self.watch(prepared, file, &stand_in.path)
     }
@@ -182,16 +182,15 @@ impl<W: Write> RunReader<'_, '_, W> {
 
     /// Takes what became of the tests of the programs that have ended.
     fn take_results(&mut self) {
-        let Some(failed) = &mut self.failed else {
-            return;
-        };
-        let mut missing = Vec::new();
         for (program, results) in self.report.take_results() {
-            let tests = failed.take(&program, &results).into_iter();
-            missing.extend(tests.map(|test| missing_words(&test, &program)));
-        }
-        for words in missing {
-            self.say(&words);
+            let why = self.retries.why_none(results.failed.len());
+            if let Some(why) = why.filter(|_| results.is_complete) {
+                self.say(&format!("{program}: {why}"));
+            }
+            let list = self.failed.as_mut();
+            for test in list.map_or(Vec::new(), |list| list.take(&program, &results)) {
+                self.say(&missing_words(&test, &program));
+            }
         }
     }
 
