@@ -179,12 +179,19 @@ fn failed_tests_run_again_alone_until_they_pass() {
         crash["message"],
         "its program ended by signal 6 and no line says how the test did"
     );
-    assert!(
-        crash["stdout"]
-            .as_str()
-            .expect("it has one")
-            .contains("the end")
+    // Why the first attempt failed is not lost.
+    let stdout = crash["stdout"].as_str().expect("it has one");
+    let first = between(
+        stdout,
+        "--- ATTEMPT 1 FAILED ---\n",
+        "--- ATTEMPT 2 FAILED ---\n",
     );
+    assert!(first.contains("first\n"), "{stdout}");
+    assert!(
+        stdout.ends_with("--- ATTEMPT 3 FAILED ---\nthe end\n"),
+        "{stdout}"
+    );
+    assert!(text.contains("tests/some.rs:13:5:\n    first\n"), "{text}");
     let last = those(&events, "suite", "failed");
     assert_eq!(
         (last.len(), &last[0]["passed"], &last[0]["failed"]),
@@ -300,6 +307,18 @@ fn assert_forms(folder: &Folder) {
 fn between<'a>(text: &'a str, front: &str, end: &str) -> &'a str {
     let (_, rest) = text.split_once(front).expect("it begins so");
     rest.split_once(end).expect("it ends so").0
+}
+
+#[test]
+fn a_flaky_test_says_why_it_failed_although_its_output_was_not_captured() {
+    let folder = Folder::new("nocapture");
+    folder.write(&PACKAGE);
+    let arguments = ["--test", "some", "--", "--include-ignored", "--nocapture"];
+    let output = report(&folder, &["--retries", "2"], &arguments);
+    let text = String::from_utf8_lossy(&output.stdout);
+    assert_eq!(numbers(&folder), [6, 4, 2, 2], "{text}");
+    assert_attempts_of_text(&text);
+    assert!(!text.contains("no output was captured"), "{text}");
 }
 
 #[test]

@@ -1,5 +1,6 @@
 //! Decides whether cargo writes colours.
 
+use crate::report::screen::{is_dumb_terminal, is_set};
 use std::env;
 use std::io::{self, IsTerminal};
 
@@ -13,13 +14,11 @@ pub const CARGO_COLOR: &str = "CARGO_TERM_COLOR";
 /// has set cargo's own variable. Cargo's standard error is a pipe in part of the run, so without all these a terminal makes
 /// it write colours.
 pub fn cargo_color(option: &str) -> Option<&'static str> {
-    let has_no_color = env::var_os("NO_COLOR").is_some_and(|value| !value.is_empty());
-    let is_dumb = env::var_os("TERM").is_some_and(|term| term == "dumb");
     match option {
         "always" => Some("always"),
         "never" => Some("never"),
         _ if env::var_os(CARGO_COLOR).is_some() => None,
-        _ if has_no_color || is_dumb => Some("never"),
+        _ if is_set("NO_COLOR") || is_dumb_terminal() => Some("never"),
         _ => io::stderr().is_terminal().then_some("always"),
     }
 }

@@ -34,7 +34,7 @@ const EXACT: &str = "--exact";
 const IGNORED: [&str; 2] = ["--ignored", "--include-ignored"];
 
 /// The arguments with which a harness writes the names of its tests, and what follows the name in its lines.
-const LISTS: [&str; 3] = ["--list", "--format", "terse"];
+const LISTING: [&str; 3] = ["--list", "--format", "terse"];
 const LISTED: [&str; 2] = [": test", ": benchmark"];
 
 /// The most bytes of the names of tests that are passed to a program. Systems allow two MiB and more for all arguments and
@@ -164,7 +164,7 @@ impl Tested<'_> {
         only_ignored: bool,
     ) -> Option<Vec<String>> {
         let ignored = only_ignored.then_some(IGNORED[0]);
-        let words: Vec<_> = LISTS
+        let words: Vec<_> = LISTING
             .into_iter()
             .chain(ignored)
             .map(OsString::from)

@@ -19,6 +19,7 @@ pub mod programs;
 pub mod repeated;
 mod retries;
 pub mod run_line;
+mod run_streams;
 pub mod running;
 pub mod settings;
 pub mod stand_in;

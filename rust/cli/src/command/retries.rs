@@ -5,14 +5,17 @@ use super::harness::{Tested, missing_options};
 use super::held_ends::{HeldEnds, HeldKind, HeldLine};
 use super::last_output::LastOutput;
 use super::programs::Retries;
-use super::run_line::{ProcessEnd, is_run_line};
+use super::run_line::ProcessEnd;
+use super::run_streams::RunStreams;
 use super::system::Signals;
 use super::watching::Watched;
 use crate::attempts::joined;
 use crate::lines::Lines;
 use crate::process_streams::Stream;
+use deodarsieve::counted::first_head;
 use deodarsieve_run::{Event, Line, TestDetails, TestResult};
 use serde_json::value::{RawValue, to_raw_value};
+use std::borrow::Cow;
 use std::collections::{BTreeMap, BTreeSet};
 use std::ffi::{OsStr, OsString};
 use std::io::{self, Write};
@@ -45,7 +48,7 @@ enum Attempt {
     },
 
     /// The program wrote no end of the test.
-    Crashed { end: ProcessEnd, stderr: String },
+    Crashed(ProcessEnd),
 
     /// The program was asked to end, or could not be started.
     Stopped,
@@ -80,16 +83,17 @@ impl<'a> Retrying<'a> {
     }
 
     /// Runs the failed tests again whose ends were held back, if the program ended as a harness does after failures, and
-    /// writes all that was held back. Returns how the program would have ended with the last results.
+    /// writes all that was held back. `stderr` is what the program wrote to standard error. Returns how the program would have
+    /// ended with the last results.
     ///
-    /// Fails if `output` cannot be written.
+    /// Fails if standard output does.
     pub fn finish(
         &self,
         held: HeldEnds,
         status: ExitStatus,
+        stderr: &str,
         signals: &Signals,
-        output: &mut impl Write,
-        errors: &mut impl Write,
+        streams: &mut RunStreams<impl Write, impl Write>,
     ) -> io::Result<ExitStatus> {
         let retries = held.are_complete() && status.code() == Some(TEST_FAILED);
         let (lines, tests) = held.into_parts();
@@ -97,8 +101,8 @@ impl<'a> Retrying<'a> {
         for HeldLine { line, front, kind } in lines {
             let text = match kind {
                 HeldKind::Failed(test) if retries => {
-                    let (end, has_passed) =
-                        self.retry(&test, &tests, &line[front..], signals, output, errors)?;
+                    let failed = (&line[front..], stderr);
+                    let (end, has_passed) = self.retry(&test, &tests, failed, signals, streams)?;
                     passed += u64::from(has_passed);
                     all_passed &= has_passed;
                     [&line[..front], &end].concat()
@@ -110,7 +114,7 @@ impl<'a> Retrying<'a> {
                 }
                 HeldKind::Failed(_) | HeldKind::SuiteEnded | HeldKind::Other => line,
             };
-            write_line(output, &text)?;
+            streams.write_line(&text)?;
         }
         // The default is a success.
         Ok(if all_passed {
@@ -120,28 +124,32 @@ impl<'a> Retrying<'a> {
         })
     }
 
-    /// Runs a test again until it passes, but not too often. Returns the line of its end, and whether it passed. If it did, the
-    /// line has the outputs of all attempts. `failed` is the event of its first end.
+    /// Runs a test again until it passes, but not too often. Returns the line of its end, and whether it passed. If it did, or
+    /// if the program of its last attempt crashed, the line has the outputs of all attempts. `failed` is the event of its first
+    /// end, and what the program wrote to standard error.
     fn retry(
         &self,
         test: &str,
         tests: &BTreeSet<String>,
-        failed: &[u8],
+        failed: (&[u8], &str),
         signals: &Signals,
-        output: &mut impl Write,
-        errors: &mut impl Write,
+        streams: &mut RunStreams<impl Write, impl Write>,
     ) -> io::Result<(Vec<u8>, bool)> {
-        let (mut last, mut outputs) = (failed.to_vec(), vec![output_of(failed)]);
+        let (event, stderr) = failed;
+        let (mut last, mut outputs) = (event.to_vec(), vec![output_of(event, test, stderr)]);
+        let mut crash = None;
         for attempt in 2..=self.retries.count.saturating_add(1) {
             if signals.are_end() {
                 break;
             }
             let name = format!("{test}#{attempt}");
-            match self.run(test, tests, signals, output, errors)? {
+            let (attempt, stderr) = self.run(test, tests, signals, streams)?;
+            match attempt {
                 Attempt::Stopped => break,
-                Attempt::Crashed { end, stderr } => {
+                Attempt::Crashed(end) => {
                     last = crash_line(&name, end, &stderr)?;
-                    outputs.push(output_of(&last));
+                    outputs.push(output_of(&last, test, ""));
+                    crash = Some(stderr);
                 }
                 Attempt::Ended {
                     passed,
@@ -153,10 +161,15 @@ impl<'a> Retrying<'a> {
                         let event = flaky(event, &name, &outputs);
                         return Ok(([before, &event].concat(), true));
                     }
-                    outputs.push(output_of(event));
+                    outputs.push(output_of(event, test, &stderr));
                     last = [before, &with_texts(event, &[("name", &name)])].concat();
+                    crash = None;
                 }
             }
+        }
+        if let (Some(stderr), Some(output)) = (crash, outputs.last_mut()) {
+            *output = stderr;
+            last = with_texts(&last, &[("stdout", &joined(&outputs, None))]);
         }
         Ok((last, false))
     }
@@ -174,46 +187,43 @@ impl<'a> Retrying<'a> {
         self.tested.command(self.prepare, &harness)
     }
 
-    /// Runs a test again. What the program prints is passed on, and its other events are left out.
+    /// Runs a test again. What the program prints is passed on, and its other events are left out. Returns what came of it, and
+    /// what the program wrote to standard error.
     fn run(
         &self,
         test: &str,
         tests: &BTreeSet<String>,
         signals: &Signals,
-        output: &mut impl Write,
-        errors: &mut impl Write,
-    ) -> io::Result<Attempt> {
+        streams: &mut RunStreams<impl Write, impl Write>,
+    ) -> io::Result<(Attempt, String)> {
         let Ok(mut program) = Watched::start(&mut self.command(test, tests), signals) else {
-            return Ok(Attempt::Stopped);
+            return Ok((Attempt::Stopped, String::new()));
         };
         let (mut lines, mut stderr) = (Lines::default(), LastOutput::default());
         let mut ended = None;
         program.read(|stream, piece| {
             match stream {
                 Stream::Output => lines.take(piece, |line| {
-                    ended = take_line(test, line, output, errors)?.or(ended.take());
+                    ended = take_line(test, line, streams)?.or(ended.take());
                     Ok::<_, io::Error>(())
                 })?,
                 Stream::Error => {
-                    // If nobody reads it, the program goes on as if somebody did.
-                    let _ = errors.write_all(piece);
+                    streams.write_error(piece);
                     stderr.push(piece);
                 }
             }
-            output.flush()
+            streams.flush()
         })?;
         if let Some(line) = lines.end() {
-            ended = take_line(test, &line, output, errors)?.or(ended);
+            ended = take_line(test, &line, streams)?.or(ended);
         }
-        let status = program.wait()?;
-        if program.was_asked_to_end() || signals.are_end() {
-            return Ok(Attempt::Stopped);
-        }
-        let (end, stderr) = (process_end(status), stderr.into_text());
-        Ok(match (ended, end) {
+        let end = process_end(program.wait()?);
+        let attempt = match (ended, end) {
+            _ if program.was_asked_to_end() || signals.are_end() => Attempt::Stopped,
             (Some(ended), ProcessEnd::Status(0 | TEST_FAILED)) => ended,
-            _ => Attempt::Crashed { end, stderr },
-        })
+            _ => Attempt::Crashed(end),
+        };
+        Ok((attempt, stderr.into_text()))
     }
 }
 
@@ -222,12 +232,9 @@ impl<'a> Retrying<'a> {
 fn take_line(
     test: &str,
     line: &[u8],
-    output: &mut impl Write,
-    errors: &mut impl Write,
+    streams: &mut RunStreams<impl Write, impl Write>,
 ) -> io::Result<Option<Attempt>> {
-    if is_run_line(line) {
-        // If nobody reads it, the program goes on as if somebody did.
-        let _ = errors.write_all(&[line, b"\n"].concat());
+    if streams.turn_away(line) {
         return Ok(None);
     }
     let read = Line::read(line);
@@ -242,30 +249,40 @@ fn take_line(
         }));
     }
     if matches!(read.event(), Event::TestSlow { name } if name == test) {
-        write_line(output, line)?;
+        streams.write_line(line)?;
     } else if front > 0 || line.is_empty() {
-        write_line(output, &line[..front])?;
+        streams.write_line(&line[..front])?;
     }
     Ok(None)
 }
 
-/// Writes a line and a line feed.
-pub fn write_line(output: &mut impl Write, line: &[u8]) -> io::Result<()> {
-    output.write_all(line)?;
-    output.write_all(b"\n")
-}
-
-/// Returns the last 64 KiB of what the event of the end of a test says of a failure: its reason, its message and its output.
-fn output_of(event: &[u8]) -> String {
+/// Returns the last 64 KiB of what the event of the end of a test says of a failure: its reason, its message and its output. If
+/// that was not captured, the panics of the test in `stderr` take its place.
+fn output_of(event: &[u8], test: &str, stderr: &str) -> String {
     let (read, mut output) = (Line::read(event), LastOutput::default());
     if let Some(details) = details_of(&read) {
         for words in [details.reason, details.message].into_iter().flatten() {
             output.push(words.trim_end_matches('\n').as_bytes());
             output.push(b"\n");
         }
-        output.push(details.stdout.unwrap_or("").as_bytes());
+        let stdout = details.stdout.map(Cow::from);
+        let stdout = stdout.unwrap_or_else(|| panics_of(test, stderr).into());
+        output.push(stdout.as_bytes());
     }
     output.into_text()
+}
+
+/// Returns the panics of a test in what its program wrote to standard error: its thread has its name. A panic ends before
+/// that of another thread.
+fn panics_of(test: &str, stderr: &str) -> String {
+    let mut is_own = false;
+    let lines = stderr.split_inclusive('\n').filter(|line| {
+        if first_head(line.as_bytes()).is_some_and(|head| head.start == 0) {
+            is_own = line.split('\'').nth(1) == Some(test);
+        }
+        is_own
+    });
+    lines.collect()
 }
 
 /// Returns the event of a test that passed, with another name, and with the outputs of the attempts before, which failed.
@@ -362,7 +379,7 @@ mod tests {
             r#"{"type":"test","event":"failed","name":"a","message":"test did not panic as expected\n","stdout":""}"#,
             r#"{"type":"test","event":"failed","name":"a"}"#,
         ];
-        let outputs = failed.map(|event| output_of(event.as_bytes()));
+        let outputs = failed.map(|event| output_of(event.as_bytes(), "a", ""));
         let wanted = [
             "time limit exceeded\nx",
             "test did not panic as expected\n",
@@ -389,11 +406,24 @@ mod tests {
     }
 
     #[test]
+    fn an_attempt_without_output_has_its_panics() {
+        let stderr = "a line\n\nthread 'b' (7) panicked at b.rs:1:2:\nb\n\
+                      thread 'a' (8) panicked at a.rs:1:2:\nlost\nnote: more\nthread 'a2' panicked at a.rs:3:4:\nother\n\
+                      thread 'a' panicked at a.rs:5:6:\nagain\n";
+        let panics = "thread 'a' (8) panicked at a.rs:1:2:\nlost\nnote: more\nthread 'a' panicked at a.rs:5:6:\nagain\n";
+        let event = r#"{"type":"test","event":"failed","name":"a"}"#;
+        assert_eq!(output_of(event.as_bytes(), "a", stderr), panics);
+        assert_eq!(output_of(event.as_bytes(), "c", stderr), "");
+        let event = r#"{"type":"test","event":"failed","name":"a","stdout":"x"}"#;
+        assert_eq!(output_of(event.as_bytes(), "a", stderr), "x");
+    }
+
+    #[test]
     fn not_all_is_kept_of_a_long_output() {
         let long = format!("first\n{}last\n", "x\n".repeat(1 << 16));
         let event =
             serde_json::json!({"type": "test", "event": "failed", "name": "a", "stdout": long});
-        let kept = output_of(event.to_string().as_bytes());
+        let kept = output_of(event.to_string().as_bytes(), "a", "");
         assert!(kept.len() <= 1 << 16 && kept.ends_with("x\nlast\n"));
     }
 
@@ -416,7 +446,8 @@ mod tests {
         let slow = br#"{ "type": "test", "event": "timeout", "name": "a" }"#;
         for (test, wanted) in [("a", [&slow[..], b"\n"].concat()), ("b", Vec::new())] {
             let mut output = Vec::new();
-            let ended = take_line(test, slow, &mut output, &mut io::sink());
+            let mut streams = RunStreams::new(&mut output, io::sink());
+            let ended = take_line(test, slow, &mut streams);
             assert!(ended.expect("nothing fails").is_none());
             assert_eq!(output, wanted);
         }

@@ -12,6 +12,7 @@ use super::harness::{
 use super::programs::{PROGRAMS, Plan, Retries};
 use super::retries::Retrying;
 use super::run_line::{MissingTests, ProgramLine, RunLine, StartedProgram};
+use super::run_streams::RunStreams;
 use super::system::{become_program, end_as};
 use super::watching::watch;
 use crate::program::Failure;
@@ -20,7 +21,7 @@ use std::borrow::Cow;
 use std::collections::HashSet;
 use std::env;
 use std::ffi::{OsStr, OsString};
-use std::io::{self, Write};
+use std::io;
 use std::path::Path;
 use std::process::{Command, ExitCode, exit};
 
@@ -171,13 +172,10 @@ fn say_missing(missing: MissingTests) {
     if missing.tests.is_empty() && missing.moved.is_empty() {
         return;
     }
-    let missing = ProgramLine::Missing(missing);
-    let mut output = StandardOutput::lock();
+    let missing = RunLine::Program(ProgramLine::Missing(missing));
+    let mut streams = RunStreams::new(StandardOutput::lock(), io::sink());
     // If nobody reads it, it is not needed.
-    let _ = RunLine::Program(missing)
-        .text()
-        .and_then(|text| output.write_all(&[text.as_slice(), b"\n"].concat()))
-        .and_then(|()| output.flush());
+    let _ = streams.write_own_line(&missing);
 }
 
 /// Returns arguments of the harness as it gets them: rustdoc divides them at white space.

@@ -3,10 +3,9 @@
 use super::end::process_end;
 use super::held_ends::HeldEnds;
 use super::last_output::LastOutput;
-use super::retries::{Retrying, write_line};
-use super::run_line::{
-    CancelledBy, CommandLine, ProgramLine, RunLine, StartedProgram, is_run_line,
-};
+use super::retries::Retrying;
+use super::run_line::{CancelledBy, CommandLine, ProgramLine, RunLine, StartedProgram};
+use super::run_streams::RunStreams;
 use super::running::{PATIENCE, RunningCommand};
 use super::system::Signals;
 use crate::lines::Lines;
@@ -48,6 +47,7 @@ pub fn watch(
     let held = retrying.map(Retrying::held_ends).unwrap_or_default();
     let mut writer = RunWriter::new(output, errors, held, &signals, says_interrupt);
     let written = writer
+        .streams
         .write_own_line(&RunLine::Program(ProgramLine::Started(program)))
         .and_then(|()| running.read(|stream, piece| writer.take(stream, piece)));
     let mut status = running.wait()?;
@@ -172,8 +172,7 @@ impl<'a> Watched<'a> {
 
 /// Writes what a stand-in sees of its program.
 struct RunWriter<'a, O: Write, E> {
-    output: BufWriter<O>,
-    errors: E,
+    streams: RunStreams<BufWriter<O>, E>,
     signals: &'a Signals,
 
     /// True if a line is to say that Ctrl-C has come, and none does.
@@ -199,19 +198,13 @@ impl<'a, O: Write, E: Write> RunWriter<'a, O, E> {
         says_interrupt: bool,
     ) -> RunWriter<'a, O, E> {
         RunWriter {
-            output: BufWriter::with_capacity(BUFFER, output),
-            errors,
+            streams: RunStreams::new(BufWriter::with_capacity(BUFFER, output), errors),
             signals,
             says_interrupt,
             lines: Lines::default(),
             held,
             last: LastOutput::default(),
         }
-    }
-
-    /// Writes a line of its own.
-    fn write_own_line(&mut self, line: &RunLine) -> io::Result<()> {
-        write_own_line(&mut self.output, line)
     }
 
     /// Takes what the program wrote next to a stream.
@@ -221,14 +214,13 @@ impl<'a, O: Write, E: Write> RunWriter<'a, O, E> {
         self.note_signal()?;
         match stream {
             Stream::Output => {
-                let (output, errors, held) = (&mut self.output, &mut self.errors, &mut self.held);
+                let (streams, held) = (&mut self.streams, &mut self.held);
                 self.lines
-                    .take(piece, |line| pass_line_on(line, held, output, errors))?;
-                self.output.flush()
+                    .take(piece, |line| pass_line_on(line, held, streams))?;
+                streams.flush()
             }
             Stream::Error => {
-                // If nobody reads it, the program goes on as if somebody did.
-                let _ = self.errors.write_all(piece);
+                self.streams.write_error(piece);
                 self.last.push(piece);
                 Ok(())
             }
@@ -238,12 +230,13 @@ impl<'a, O: Write, E: Write> RunWriter<'a, O, E> {
     /// If a signal has come, writes what waits, and then that Ctrl-C has come: less is shown of the tests that end after it.
     fn note_signal(&mut self) -> io::Result<()> {
         if self.signals.are_end() {
-            let output = &mut self.output;
-            self.held.release(|line| write_line(output, line))?;
+            let streams = &mut self.streams;
+            self.held.release(|line| streams.write_line(line))?;
         }
         if self.signals.is_interrupted() && mem::take(&mut self.says_interrupt) {
             let cancelled = CancelledBy::Interrupt;
-            self.write_own_line(&RunLine::Command(CommandLine::Cancelled { cancelled }))?;
+            let line = RunLine::Command(CommandLine::Cancelled { cancelled });
+            self.streams.write_own_line(&line)?;
         }
         Ok(())
     }
@@ -253,52 +246,40 @@ impl<'a, O: Write, E: Write> RunWriter<'a, O, E> {
     /// Fails if the output cannot be written.
     fn end(mut self, status: ExitStatus, retrying: Option<&Retrying>) -> io::Result<ExitStatus> {
         self.note_signal()?;
-        let (output, errors) = (&mut self.output, &mut self.errors);
+        let streams = &mut self.streams;
         if let Some(line) = self.lines.end() {
-            pass_line_on(&line, &mut self.held, output, errors)?;
+            pass_line_on(&line, &mut self.held, streams)?;
         }
+        let stderr = mem::take(&mut self.last).into_text();
         let status = match retrying {
             Some(retrying) => {
                 let held = mem::take(&mut self.held);
-                retrying.finish(held, status, self.signals, output, errors)?
+                retrying.finish(held, status, &stderr, self.signals, streams)?
             }
             None => status,
         };
         self.note_signal()?;
-        let stderr = mem::take(&mut self.last).into_text();
         let ended = RunLine::Program(ProgramLine::Ended {
             end: process_end(status),
             stderr: stderr.into(),
         });
-        self.write_own_line(&ended)?;
+        self.streams.write_own_line(&ended)?;
         Ok(status)
     }
 }
 
-/// Writes a line of this program, and its line feed.
-fn write_own_line(output: &mut impl Write, line: &RunLine) -> io::Result<()> {
-    let mut text = line.text()?;
-    text.push(b'\n');
-    output.write_all(&text)?;
-    output.flush()
-}
-
-/// Writes a line of a program's standard output, and its line feed, unless it waits among the lines `held`. A line that a
-/// reader would take as one of this program goes to `errors`.
+/// Writes a line of a program's standard output, unless it waits among the lines `held` or is turned away.
 ///
-/// Fails if `output` cannot be written.
+/// Fails if standard output does.
 fn pass_line_on(
     line: &[u8],
     held: &mut HeldEnds,
-    output: &mut impl Write,
-    errors: &mut impl Write,
+    streams: &mut RunStreams<impl Write, impl Write>,
 ) -> io::Result<()> {
-    if is_run_line(line) {
-        // If nobody reads it, the program goes on as if somebody did.
-        let _ = errors.write_all(&[line, b"\n"].concat());
+    if streams.turn_away(line) {
         return Ok(());
     }
-    held.take(line, |line| write_line(output, line))
+    held.take(line, |line| streams.write_line(line))
 }
 
 #[cfg(all(test, unix))]

@@ -20,11 +20,11 @@ use crate::lines::Lines;
 use crate::process_streams::{LOOK, ProcessStreams, Stream};
 use crate::program::Failure;
 use crate::report::build::{CompilerMessages, FailedBuild, last_error};
+use crate::report::screen::is_dumb_terminal;
 use crate::run_input::{RunReader, unread};
 use bstr::ByteSlice;
 use deodarsieve_run::CommandEnd;
 use std::convert::Infallible;
-use std::env;
 use std::io::{self, IsTerminal, PipeReader, Write, pipe};
 use std::mem;
 use std::process::{Command, Stdio};
@@ -32,9 +32,6 @@ use std::time::{Duration, Instant};
 
 /// What takes the line away on which cargo shows its progress.
 const ERASED: &[u8] = b"\r\x1b[K";
-
-/// The value of `TERM` for a terminal without escapes, on which cargo shows no progress.
-const DUMB: &str = "dumb";
 
 /// How long what is to come later waits.
 const MOMENT: Duration = Duration::from_millis(30);
@@ -257,7 +254,8 @@ impl<W: Write> RunReader<'_, '_, W> {
         if text.is_empty() || !output.is_on_terminal() {
             return self.write_on(text);
         }
-        if env::var_os("TERM").is_none_or(|term| term != DUMB) {
+        // On a dumb terminal cargo shows no progress.
+        if !is_dumb_terminal() {
             output.hold(ERASED);
         }
         output.hold(text);
