@@ -93,7 +93,12 @@ fn write_workspace(folder: &Folder) {
 
 /// Runs `test-report` in a folder with these options, for a `cargo test` with these arguments.
 fn report(folder: &Folder, options: &[&str], arguments: &[&str]) -> Output {
-    let words = [options, &["--", env!("CARGO"), "test"], arguments].concat();
+    report_of(folder, options, &[&["test"], arguments].concat())
+}
+
+/// Runs `test-report` in a folder with these options, for a cargo with these arguments.
+fn report_of(folder: &Folder, options: &[&str], arguments: &[&str]) -> Output {
+    let words = [options, &["--", env!("CARGO")], arguments].concat();
     let mut command = command("test-report", &words);
     as_user(&mut command, &folder.0)
         .output()
@@ -108,7 +113,12 @@ fn kept(folder: &Folder, name: &str) -> String {
 
 /// Returns the programs of the list of failed tests of which some are left.
 fn list(folder: &Folder) -> Value {
-    let mut list: Value = serde_json::from_str(&kept(folder, "failed")).expect("it is JSON");
+    list_in(folder, "failed")
+}
+
+/// Returns the same of a list with a name.
+fn list_in(folder: &Folder, name: &str) -> Value {
+    let mut list: Value = serde_json::from_str(&kept(folder, name)).expect("it is JSON");
     let programs = list["programs"].as_object_mut().expect("it is an object");
     programs.retain(|_, program| program["only"] != json!([]));
     list["programs"].take()
@@ -412,6 +422,44 @@ fn passes() {}
     let output = report(&folder, &["--failed"], &[]);
     assert_eq!(output.status.code(), Some(1));
     assert_eq!(started(&folder), set(["money", "money a_fails"]));
+}
+
+#[test]
+fn benchmarks_have_a_list_of_their_own() {
+    let folder = Folder::new("benchmarks");
+    let manifest = format!(
+        "{}\n[[bench]]\nname = \"own\"\nharness = false\n",
+        CHANGING[0].1
+    );
+    let own = "fn main() {\n    assert!(std::path::Path::new(\"mended\").exists());\n}\n";
+    folder.write(&[
+        ("Cargo.toml", manifest.as_str()),
+        CHANGING[1],
+        ("benches/own.rs", own),
+    ]);
+    report(&folder, &[], &["--lib"]);
+    let tests = json!({"money": {"tests": 4, "only": ["old", "stays"]}});
+    assert_eq!(list(&folder), tests);
+    let output = report_of(&folder, &["--failed"], &["bench"]);
+    assert_eq!(
+        messages(&output)[0],
+        "nothing failed last, so all tests run"
+    );
+    let all = set([
+        "money",
+        "money old",
+        "money passes",
+        "money rests",
+        "money stays",
+        "money::bench/own",
+    ]);
+    assert_eq!(started(&folder), all);
+    let benchmarks = json!({"money::bench/own": {"tests": null, "except": []}});
+    assert_eq!(list_in(&folder, "failed-benchmarks"), benchmarks);
+    let output = report_of(&folder, &["--failed"], &["bench"]);
+    assert_eq!(messages(&output)[0], "1 program: those that failed last");
+    assert_eq!(started(&folder), set(["money::bench/own"]));
+    assert_eq!(list(&folder), tests);
 }
 
 #[test]

@@ -15,10 +15,13 @@ use serde::{Deserialize, Serialize};
 use std::collections::{BTreeMap, BTreeSet};
 use std::fs;
 use std::io::{self, ErrorKind};
-use std::path::Path;
+use std::path::{Path, PathBuf};
 
 /// The name of the file in the folder of this program in cargo's target folder.
 const NAME: &str = "failed";
+
+/// The name of the file of benchmarks. Their programs may have the names of others that run tests.
+const NAME_OF_BENCHMARKS: &str = "failed-benchmarks";
 
 /// The tests of programs that are to run again, by the names of the programs.
 #[derive(Clone, Debug, Default, PartialEq, Eq, Serialize, Deserialize)]
@@ -62,23 +65,28 @@ pub struct ProgramResults {
 }
 
 impl FailedTests {
-    /// Reads the list in a folder. It is empty if there is none.
+    /// Returns the path of the list in a folder. `measures` is true if it is that of benchmarks.
+    pub fn path_in(folder: &Path, measures: bool) -> PathBuf {
+        folder.join(if measures { NAME_OF_BENCHMARKS } else { NAME })
+    }
+
+    /// Reads the list in a file. It is empty if there is none.
     ///
     /// Fails if the file is there and cannot be read as a list.
-    pub fn read(folder: &Path) -> io::Result<FailedTests> {
-        match fs::read(folder.join(NAME)) {
+    pub fn read(file: &Path) -> io::Result<FailedTests> {
+        match fs::read(file) {
             Ok(bytes) => Ok(serde_json::from_slice(&bytes)?),
             Err(error) if error.kind() == ErrorKind::NotFound => Ok(FailedTests::default()),
             Err(error) => Err(error),
         }
     }
 
-    /// Writes the list to a folder. The old file is replaced.
+    /// Writes the list to a file. The old one is replaced.
     ///
     /// Fails if that cannot be done.
-    pub fn write(&self, folder: &Path) -> io::Result<()> {
+    pub fn write(&self, file: PathBuf) -> io::Result<()> {
         let text = serde_json::to_string(self)?;
-        ReplacedFile::new(folder.join(NAME), None).replace(&text)
+        ReplacedFile::new(file, None).replace(&text)
     }
 
     /// Returns the part of the list about some programs.
@@ -181,7 +189,7 @@ impl FailedTests {
         let programs = (programs > 0).then(|| counted(programs, "program"));
         match programs {
             None => tests,
-            Some(programs) if all == 0 => programs,
+            Some(programs) if left == 0 => programs,
             Some(programs) => format!("{tests}, and {programs}"),
         }
     }
@@ -412,25 +420,28 @@ mod tests {
         };
         list.take("q", &single, false);
         assert_eq!(list.of(|name| name == "q").words(), "1 of 1 test");
+        list.take("p", &complete("", "a b c d"), false);
+        list.add_not_started("r");
+        assert_eq!(list.of(|name| name != "q").words(), "1 program");
     }
 
     #[test]
     fn the_file_is_one_object() {
         let folder = tempfile::tempdir().expect("a folder can be made");
-        let inner = folder.path().join("test-report");
-        let read = || FailedTests::read(&inner);
+        let file = FailedTests::path_in(&folder.path().join("test-report"), false);
+        let read = || FailedTests::read(&file);
         assert!(read().expect("there is none").is_empty());
         let mut list = list(&[(complete("a \"b\"", "c d"), false)]);
         list.add_not_started("q (doc tests)");
         list.take("r", &cut("a", "b"), false);
-        list.write(&inner).expect("it can be written");
-        let text = fs::read_to_string(inner.join(NAME)).expect("it is written");
+        list.write(file.clone()).expect("it can be written");
+        let text = fs::read_to_string(&file).expect("it is written");
         assert_eq!(
             text,
             r#"{"programs":{"p":{"tests":4,"only":["\"b\"","a"]},"q (doc tests)":{"tests":null,"except":[]},"r":{"tests":4,"except":["b"],"failed":["a"]}}}"#
         );
         assert_eq!(read().expect("it can be read"), list);
-        fs::write(inner.join(NAME), "{").expect("the folder is there");
+        fs::write(&file, "{").expect("the folder is there");
         assert!(read().is_err());
     }
 }

@@ -13,9 +13,9 @@ const NOTHING_FAILED: &str = "nothing failed last, so all tests run";
 /// The same, if tests of other programs failed last.
 const OTHERS_FAILED: &str = "nothing of these programs failed last, so all tests run";
 
-/// The list in a folder, and what the run has to do with it.
+/// The list in a file, and what the run has to do with it.
 pub(super) struct FailedList {
-    folder: PathBuf,
+    file: PathBuf,
     tests: FailedTests,
 
     /// The names of the programs that the command runs, as far as they are known.
@@ -32,13 +32,13 @@ pub(super) struct FailedList {
 }
 
 impl FailedList {
-    /// Reads the list in a folder, for a command that runs these programs.
-    pub(super) fn read(folder: PathBuf, programs: BTreeSet<String>) -> FailedList {
-        let tests = FailedTests::read(&folder);
+    /// Reads the list in a file, for a command that runs these programs.
+    pub(super) fn read(file: PathBuf, programs: BTreeSet<String>) -> FailedList {
+        let tests = FailedTests::read(&file);
         FailedList {
             is_unreadable: tests.is_err(),
             tests: tests.unwrap_or_default(),
-            folder,
+            file,
             programs,
             taken: BTreeSet::new(),
             is_rerun: false,
@@ -90,9 +90,9 @@ impl FailedList {
                 self.taken.insert(program.clone());
             }
         }
-        let mut list = FailedTests::read(&self.folder).unwrap_or_default();
+        let mut list = FailedTests::read(&self.file).unwrap_or_default();
         list.extend(self.tests.of(|program| self.taken.contains(program)));
-        list.write(&self.folder)
+        list.write(self.file)
     }
 }
 
@@ -103,9 +103,10 @@ mod tests {
     #[test]
     fn two_runs_at_once_keep_the_failures_of_both() {
         let folder = tempfile::tempdir().expect("a folder can be made");
+        let file = folder.path().join("failed");
         let lists = ["p", "q"].map(|program| {
             let programs = BTreeSet::from([program.to_string()]);
-            let mut list = FailedList::read(folder.path().into(), programs);
+            let mut list = FailedList::read(file.clone(), programs);
             let results = ProgramResults {
                 failed: BTreeSet::from(["a".to_string()]),
                 is_complete: true,
@@ -118,7 +119,7 @@ mod tests {
             let written = list.finish(&TestResults::default(), true);
             written.expect("it can be written");
         }
-        let list = FailedTests::read(folder.path()).expect("it can be read");
+        let list = FailedTests::read(&file).expect("it can be read");
         assert!(list.left_of("p").is_some() && list.left_of("q").is_some());
     }
 }

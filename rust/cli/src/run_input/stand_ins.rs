@@ -57,6 +57,7 @@ impl<W: Write> RunReader<'_, '_, W> {
             // This ends the program that runs.
             let _ = (self.report).on_line(LAST_LINE, &mut io::sink(), &mut io::sink());
             self.take_results();
+            self.save_now();
         }
         self.keep(has_finished && self.cancelled.is_none());
         end.map(drop)
@@ -143,7 +144,8 @@ impl<W: Write> RunReader<'_, '_, W> {
             return None;
         };
         let names = names_of(stand_in, &workspace, programs);
-        let mut list = FailedList::read(workspace.target.join(FOLDER), names);
+        let file = FailedTests::path_in(&workspace.target.join(FOLDER), stand_in.measures);
+        let mut list = FailedList::read(file, names);
         let mut selected = None;
         if list.is_unreadable {
             let so = if wants { "all tests run, and " } else { "" };
