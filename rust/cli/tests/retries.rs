@@ -187,10 +187,9 @@ fn failed_tests_run_again_alone_until_they_pass() {
         "--- ATTEMPT 2 FAILED ---\n",
     );
     assert!(first.contains("first\n"), "{stdout}");
-    assert!(
-        stdout.ends_with("--- ATTEMPT 3 FAILED ---\nthe end\n"),
-        "{stdout}"
-    );
+    let message = crash["message"].as_str().expect("it has one");
+    let last = format!("--- ATTEMPT 3 FAILED ---\n{message}\nthe end\n");
+    assert!(stdout.ends_with(&last), "{stdout}");
     assert!(text.contains("tests/some.rs:13:5:\n    first\n"), "{text}");
     let last = those(&events, "suite", "failed");
     assert_eq!(

@@ -131,13 +131,12 @@ impl<'a> Retrying<'a> {
         &self,
         test: &str,
         tests: &BTreeSet<String>,
-        failed: (&[u8], &str),
+        (failed, stderr): (&[u8], &str),
         signals: &Signals,
         streams: &mut RunStreams<impl Write, impl Write>,
     ) -> io::Result<(Vec<u8>, bool)> {
-        let (event, stderr) = failed;
-        let (mut last, mut outputs) = (event.to_vec(), vec![output_of(event, test, stderr)]);
-        let mut crash = None;
+        let (mut last, mut outputs) = (failed.to_vec(), vec![output_of(failed, test, stderr)]);
+        let mut has_crashed = false;
         for attempt in 2..=self.retries.count.saturating_add(1) {
             if signals.are_end() {
                 break;
@@ -149,7 +148,7 @@ impl<'a> Retrying<'a> {
                 Attempt::Crashed(end) => {
                     last = crash_line(&name, end, &stderr)?;
                     outputs.push(output_of(&last, test, ""));
-                    crash = Some(stderr);
+                    has_crashed = true;
                 }
                 Attempt::Ended {
                     passed,
@@ -163,12 +162,11 @@ impl<'a> Retrying<'a> {
                     }
                     outputs.push(output_of(event, test, &stderr));
                     last = [before, &with_texts(event, &[("name", &name)])].concat();
-                    crash = None;
+                    has_crashed = false;
                 }
             }
         }
-        if let (Some(stderr), Some(output)) = (crash, outputs.last_mut()) {
-            *output = stderr;
+        if has_crashed {
             last = with_texts(&last, &[("stdout", &joined(&outputs, None))]);
         }
         Ok((last, false))
