@@ -2,10 +2,15 @@
 
 use crate::report::colours::{Mark, Paint, without_colours};
 use crate::report::debug_lines::lines_of;
+use crate::report::limit::{cuts_alike, shown_change};
 use similar::{Algorithm, DiffOp, DiffTag, capture_diff_slices, group_diff_ops};
 use std::borrow::Cow;
 use std::collections::HashMap;
+use std::iter::repeat;
 use std::ops::Range;
+
+/// What begins an assertion of two values, in its line: since Rust 1.73, and before.
+const HEADS: [&str; 2] = ["assertion `left ", "assertion failed: `(left "];
 
 /// What begins the line of the first value.
 const LEFT: &str = "\n  left: ";
@@ -19,8 +24,8 @@ const LONG_VALUE: usize = 60;
 /// The most bytes of a value that is compared.
 const MOST_BYTES: usize = 1_048_576;
 
-/// The most lines that differ. The time that the comparison takes grows with its square. If more differ, the values
-/// themselves say more.
+/// The most lines that differ. The time that the comparison takes grows with its square. If more differ, the first place
+/// in which the values differ says more.
 const MOST_DIFFERENCES: usize = 150;
 
 /// How many equal lines are shown before and after lines that differ.
@@ -38,28 +43,34 @@ struct Values<'a> {
     place: Range<usize>,
 }
 
-/// Returns an output in which a diff takes the place of the values of a failed assertion, if one of them is long or has
-/// several lines, and if some lines of them are equal and others differ. Returns `None` if there are no such values.
+/// Returns an output in which a diff takes the place of the values of each failed assertion, or `None` if no values have one.
+/// Values have a diff if one of them is long or has several lines, and if some lines are equal and others differ. They
+/// also have one if lines would be cut before the first place in which they differ.
 pub(crate) fn with_diffs(output: &str, paint: Paint) -> Option<String> {
-    let (mut shown, mut kept, mut next) = (String::new(), 0, 0);
-    while let Some(found) = output[next..].find(RIGHT) {
+    let plain = without_colours(output);
+    let mut lines = output.split('\n');
+    let (mut shown, mut kept, mut next) = (Vec::new(), 0, 0);
+    while let Some(found) = plain[next..].find(RIGHT) {
         let right = next + found;
-        let Some(values) = Values::at(output, next, right) else {
+        let Some(values) = Values::at(&plain, next, right) else {
             next = right + RIGHT.len();
             continue;
         };
-        next = values.place.end;
+        let Range { start, end } = values.place;
+        next = end;
         if let Some(diff) = values.diff(paint) {
-            shown.push_str(&output[kept..values.place.start]);
-            shown.push_str(&diff);
-            kept = next;
-            if !output[kept..].is_empty() && !output[kept..].starts_with('\n') {
-                shown.push('\n');
-            }
+            let feeds = |text: &str| text.matches('\n').count();
+            let before = feeds(&plain[kept..start]);
+            shown.extend(lines.by_ref().take(before).map(Cow::from));
+            shown.push(diff.into());
+            lines.nth(feeds(&plain[start..end]));
+            let rest = plain[end..].split('\n').next().unwrap_or("");
+            shown.extend((!rest.is_empty()).then(|| rest.into()));
+            kept = end + rest.len() + 1;
         }
     }
-    shown.push_str(&output[kept..]);
-    (kept > 0).then_some(shown)
+    shown.extend(lines.map(Cow::from));
+    (kept > 0).then(|| shown.join("\n"))
 }
 
 impl<'a> Values<'a> {
@@ -67,9 +78,10 @@ impl<'a> Values<'a> {
     /// is that they are equal.
     fn at(text: &'a str, start: usize, right: usize) -> Option<Values<'a>> {
         let line = start + text[start..right].rfind(LEFT)? + 1;
-        let before = &text[start..line];
-        let assertion = before.rfind("assertion").unwrap_or(before.len());
-        if !before[assertion..].contains("left == right") {
+        let mut lines = text[start..line].lines().rev();
+        let (_, assertion) =
+            lines.find_map(|line| HEADS.iter().find_map(|head| line.split_once(head)))?;
+        if !assertion.starts_with("== right") {
             return None;
         }
         let left = &text[line + LEFT.len() - 1..right];
@@ -92,12 +104,32 @@ impl<'a> Values<'a> {
     fn diff(&self, paint: Paint) -> Option<String> {
         let values = [self.left, self.right];
         let is_long = |value: &str| value.len() > LONG_VALUE || value.contains('\n');
-        let is_compared = |value: &str| value.len() <= MOST_BYTES;
-        if !values.into_iter().any(is_long) || !values.into_iter().all(is_compared) {
+        if !values.into_iter().any(is_long) {
             return None;
         }
-        let [left, right] = values.map(without_colours);
-        let [left, right] = lines_of([&left, &right])?;
+        self.diff_of_elements(paint).or_else(|| {
+            let [left, right] =
+                values.map(|value| value.split('\n').map(Cow::from).collect::<Vec<_>>());
+            let all = DiffOp::Replace {
+                old_index: 0,
+                old_len: left.len(),
+                new_index: 0,
+                new_len: right.len(),
+            };
+            let mut pairs = left.iter().zip(&right);
+            let are_cut_alike = pairs.any(|(left, right)| cuts_alike(left, right));
+            are_cut_alike.then(|| diff_text(&left, &right, vec![all], paint))
+        })
+    }
+
+    /// Returns the diff of the lines into which the values are broken, or `None` if they are too long, or too few of these
+    /// lines are equal.
+    fn diff_of_elements(&self, paint: Paint) -> Option<String> {
+        let values = [self.left, self.right];
+        if values.iter().any(|value| value.len() > MOST_BYTES) {
+            return None;
+        }
+        let [left, right] = lines_of(values)?;
         let operations = operations(&left, &right)?;
         is_useful(&left, &operations).then(|| diff_text(&left, &right, operations, paint))
     }
@@ -204,10 +236,16 @@ fn diff_text(
             lines.extend(left[old].iter().map(|line| format!("  {line}")));
             continue;
         }
-        let removed = left[old].iter().map(|line| format!("- {line}"));
-        lines.extend(removed.map(|line| paint.line(Mark::Removed, &line)));
-        let added = right[new].iter().map(|line| format!("+ {line}"));
-        lines.extend(added.map(|line| paint.line(Mark::Added, &line)));
+        let (old, new) = (&left[old], &right[new]);
+        let changes = [(old, new, "-", Mark::Removed), (new, old, "+", Mark::Added)];
+        for (changed, others, sign, mark) in changes {
+            // Lines without a partner are compared with the last line of the other value.
+            let last = others.last().map_or("", AsRef::as_ref);
+            let others = others.iter().map(AsRef::as_ref).chain(repeat(last));
+            lines.extend(changed.iter().zip(others).map(|(line, other)| {
+                paint.line(mark, &format!("{sign} {}", shown_change(line, other)))
+            }));
+        }
     }
     lines.extend(left_out(left.len() - next));
     lines.join("\n")
@@ -222,6 +260,7 @@ fn left_out(lines: usize) -> Option<String> {
 #[cfg(test)]
 mod tests {
     use super::*;
+    use crate::report::colours::with_colours_in_lines;
     use std::fmt::Debug;
 
     /// Returns what the standard library writes of a failed `assert_eq!`.
@@ -292,6 +331,85 @@ mod tests {
         assert_eq!(shown(&output).as_deref(), Some(wanted));
     }
 
+    /// Returns the line that is removed and the one that is added.
+    fn changes(output: &str) -> [String; 2] {
+        let shown = shown(output).expect("they differ");
+        let lines = shown.lines().filter(|line| line.starts_with(['-', '+']));
+        let lines: Vec<_> = lines.map(str::to_string).collect();
+        lines.try_into().expect("one line differs")
+    }
+
+    #[test]
+    fn long_lines_are_cut_around_the_first_place_that_differs() {
+        let text = |middle| format!("<{}{middle}{}>", "a".repeat(1_400), "é".repeat(700));
+        let [left, right] = ["ä, 1", "ö, 2"].map(text);
+        for (output, front, end) in [
+            (failed(&left, &right), "\"<", ">\""),
+            (failed(&(&left,), &(&right,)), "(\"<", ">\",)"),
+            (failed(&(&left, 1), &(&right, 1)), "    \"<", ">\","),
+        ] {
+            let (front_size, end_size) = (96 - front.len(), (96 - end.len()) / 2);
+            let wanted = [("-", "ä, 1"), ("+", "ö, 2")].map(|(sign, middle)| {
+                format!(
+                    "{sign} {front}{} .. {} bytes .. {}{middle}{} .. {} bytes .. {}{end}",
+                    "a".repeat(front_size),
+                    1_400 - front_size - 64,
+                    "a".repeat(64),
+                    "é".repeat(93),
+                    2 * (700 - 93 - end_size),
+                    "é".repeat(end_size),
+                )
+            });
+            assert!(wanted.iter().all(|line| line.len() <= 512));
+            assert_eq!(changes(&output), wanted);
+        }
+    }
+
+    #[test]
+    fn a_line_is_cut_so_only_if_it_is_long_and_its_front_does_not_show_the_place() {
+        let cut = |left: &str, right: &str| {
+            let lines = changes(&failed(&(left, 1), &(right, 1)));
+            lines.map(|line| line.contains(" bytes .. "))
+        };
+        for (same, size, is_cut) in [
+            (1_999, 2_000, true),
+            (185, 2_000, false),
+            (186, 2_000, true),
+            (502, 503, false),
+            (503, 504, true),
+        ] {
+            let [left, right] = ["a", "b"].map(|c| "x".repeat(same) + &c.repeat(size - same));
+            assert_eq!(cut(&left, &right), [is_cut, is_cut], "{same} {size}");
+        }
+        let long = "x".repeat(2_000);
+        assert_eq!(cut(&long, &long[..400]), [true, false]);
+        // A line was added, so two lines take the place of one.
+        let lines = |ends: &[&str]| ends.iter().map(|end| long.clone() + end).collect();
+        let [one, two]: [Vec<String>; 2] = [lines(&["a"]), lines(&["b", "c"])];
+        let diff = shown(&failed(&(one, 1), &(two, 1))).expect("they differ");
+        for end in ["xa\",", "xb\",", "xc\","] {
+            assert!(diff.contains(end), "{diff}");
+        }
+        assert_eq!(diff.matches(" .. 1849 bytes .. ").count(), 3, "{diff}");
+    }
+
+    #[test]
+    fn of_values_that_differ_too_much_the_first_place_is_shown() {
+        let changes_of = |size: usize, changed: usize| {
+            let left: Vec<usize> = (0..size).collect();
+            let right = left.iter().map(|n| match n {
+                n if (999..999 + changed).contains(n) => n + 100_000,
+                n => *n,
+            });
+            changes(&failed(&left, &right.collect::<Vec<_>>()))
+        };
+        // More lines differ than are compared, and there are more lines than are compared.
+        for [removed, added] in [changes_of(3_000, 100), changes_of(20_001, 1)] {
+            assert!(removed.contains(", 998, 999, 1000, "), "{removed}");
+            assert!(added.contains(", 998, 100999, "), "{added}");
+        }
+    }
+
     #[test]
     fn lines_that_differ_are_red_and_green() {
         let output = "assertion `left == right` failed\n  left: a\nx\nb\n right: a\nx\n\u{1b}[1mc\u{1b}[0m\nd\nnote: run with";
@@ -303,6 +421,22 @@ mod tests {
     }
 
     #[test]
+    fn a_colour_that_is_open_does_not_hide_the_values() {
+        let output = format!(
+            "\u{1b}[31mstart\n{}\nend\u{1b}[0m\nafter",
+            failed(&config(Some(1)), &config(Some(2)))
+        );
+        let output = with_colours_in_lines(&output);
+        let shown = with_diffs(&output, Paint::Nothing).expect("they differ");
+        let wanted = with_diffs(&without_colours(&output), Paint::Nothing);
+        assert_eq!(Some(without_colours(&shown).into_owned()), wanted);
+        assert!(
+            shown.ends_with("  (7 equal lines)\n\u{1b}[31mend\u{1b}[0m\nafter"),
+            "{shown}"
+        );
+    }
+
+    #[test]
     fn what_is_around_the_values_stays() {
         let values = "  left: a\nb\n right: a\nc\n";
         let diff = "  left (-) and right (+) differ:\n  a\n- b\n+ c\n";
@@ -310,6 +444,14 @@ mod tests {
             (
                 "thread 'a' panicked at a.rs:1:2:\nassertion `left == right` failed: why\nand how\n",
                 "stack backtrace:\n   0: a\n",
+            ),
+            (
+                "assertion `left == right` failed: the assertion of totals\nis an assertion\n",
+                "stack backtrace:\n",
+            ),
+            (
+                "assertion failed: `(left == right)`: no assertion\n",
+                "note: run with",
             ),
             (
                 "assertion failed: `(left == right)`\n",
@@ -485,6 +627,13 @@ mod tests {
             "\n  left: a\nb\n right: c".repeat(50_000),
         ] {
             assert_eq!(with_diffs(&output, Paint::Nothing), None);
+        }
+        let long = |size: usize, end: &str| "a".repeat(size) + end;
+        for output in [
+            failed(&long(2_000_000, "a"), &long(2_000_000, "b")),
+            failed(&long(1_000, "a"), &long(1_000, "b")).repeat(1_000),
+        ] {
+            assert!(with_diffs(&output, Paint::Nothing).is_some());
         }
     }
 }

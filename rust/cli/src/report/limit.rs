@@ -15,6 +15,15 @@ const FRONT: usize = 384;
 /// How many bytes at the end of a long line are shown.
 const END: usize = 96;
 
+/// How many bytes at the front of a long line are shown if it first differs from another one further on.
+const FRONT_OF_CHANGE: usize = 96;
+
+/// How many bytes are shown before and after the place in which it differs.
+const AROUND: [usize; 2] = [64, 192];
+
+/// How many bytes a diff has before each line.
+const SIGN: usize = 2;
+
 /// What is between the number of bytes in the middle of a long line and its end.
 const BYTES: &str = " bytes .. ";
 
@@ -77,6 +86,50 @@ impl LongLines {
 /// Returns false only if all lines of a text that is shown are whole.
 pub(crate) fn may_have_cut_lines(shown: &str) -> bool {
     shown.contains(BYTES)
+}
+
+/// Returns true if a diff of two lines shows only a part of one, and the front of a long line would not show where they
+/// differ. The lines have no colours.
+pub(crate) fn cuts_alike(left: &str, right: &str) -> bool {
+    let size = left.len().max(right.len()) + SIGN;
+    let same = equal_front(left, right);
+    size > LONG_LINE && left != right && SIGN + same + AROUND[1] > FRONT
+}
+
+/// Returns how many bytes at the front of two texts are equal, in whole characters.
+fn equal_front(left: &str, right: &str) -> usize {
+    let pairs = left.chars().zip(right.chars());
+    let equal = pairs.take_while(|(left, right)| left == right);
+    equal.map(|(c, _)| c.len_utf8()).sum()
+}
+
+/// Returns what a diff shows of a line that replaces another one or is replaced by it. If it is long, and would be cut
+/// before they differ, this is its front, what is around the first place in which they differ, and its end. The lines have
+/// no colours.
+pub(crate) fn shown_change<'a>(line: &'a str, other: &str) -> Cow<'a, str> {
+    if line.len() + SIGN <= LONG_LINE || !cuts_alike(line, other) {
+        return line.into();
+    }
+    let (place, [before, after]) = (equal_front(line, other), AROUND);
+    let parts = [
+        0..FRONT_OF_CHANGE,
+        place.saturating_sub(before)..place + after,
+        line.len() - END..line.len(),
+    ];
+    let (mut shown, mut next) = (String::new(), 0);
+    for part in parts {
+        let start = line.ceil_char_boundary(part.start);
+        let end = line.floor_char_boundary(part.end);
+        if start > next {
+            shown.push_str(&format!(" .. {}{BYTES}", start - next));
+            next = start;
+        }
+        if end > next {
+            shown.push_str(&line[next..end]);
+            next = end;
+        }
+    }
+    shown.into()
 }
 
 /// How much is shown of a text.
