@@ -1,6 +1,6 @@
 //! Backtraces, in which the frames of the standard library are folded and those of the sources at hand are bright.
 
-use crate::report::colours::{Mark, Paint};
+use crate::report::colours::{Mark, Paint, without_colours};
 use std::borrow::Cow;
 use std::iter::Peekable;
 
@@ -38,28 +38,37 @@ const RUNTIME: [&str; 21] = [
     "start_thread",
 ];
 
+/// Folders of sources that cargo fetched, in its home (`~/.cargo` or `/usr/local/cargo`), or that Debian installed.
+const FETCHED: [&str; 2] = ["cargo/registry/", "cargo/git/checkouts/"];
+
+/// A line without colours, and the line itself.
+type Line<'a> = (&'a str, &'a str);
+
 /// A frame of a backtrace.
 #[derive(Clone, Copy)]
 struct Frame<'a> {
-    /// The line with its number and the name of its function.
-    line: &'a str,
+    /// The name of its function.
     name: &'a str,
 
-    /// The line with its place in the sources, if it is known.
-    place: Option<&'a str>,
+    /// The path in its place in the sources, if that is known.
+    path: Option<&'a str>,
+
+    /// The line with its number and its name, and that with its place.
+    lines: [Option<&'a str>; 2],
 }
 
 /// Returns an output with short backtraces: a run of frames of the standard library is one line, and the frames of the
 /// sources at hand are bright. Returns `None` if this changes nothing.
 pub(crate) fn with_short_backtraces(output: &str, paint: Paint) -> Option<String> {
-    if !output.split('\n').any(is_head) {
+    let plain = without_colours(output);
+    if !plain.split('\n').any(is_head) {
         return None;
     }
     let mut shown = Vec::new();
-    let mut lines = output.split('\n').peekable();
-    while let Some(line) = lines.next() {
+    let mut lines = plain.split('\n').zip(output.split('\n')).peekable();
+    while let Some((plain, line)) = lines.next() {
         shown.push(line.into());
-        if is_head(line) {
+        if is_head(plain) {
             push_frames(&mut shown, &mut lines, paint);
         }
     }
@@ -75,7 +84,7 @@ fn is_head(line: &str) -> bool {
 /// Takes the frames at the front of the lines, and appends what is shown of them.
 fn push_frames<'a>(
     shown: &mut Vec<Cow<'a, str>>,
-    lines: &mut Peekable<impl Iterator<Item = &'a str>>,
+    lines: &mut Peekable<impl Iterator<Item = Line<'a>>>,
     paint: Paint,
 ) {
     let mut folded = 0;
@@ -86,7 +95,7 @@ fn push_frames<'a>(
         }
         shown.extend(folded_line(folded));
         folded = 0;
-        let lines = [Some(frame.line), frame.place].into_iter().flatten();
+        let lines = frame.lines.into_iter().flatten();
         if frame.is_at_hand() {
             shown.extend(lines.map(|line| paint.line(Mark::Important, line).into()));
         } else {
@@ -105,18 +114,15 @@ fn folded_line<'a>(frames: usize) -> Option<Cow<'a, str>> {
 
 impl<'a> Frame<'a> {
     /// Takes the frame at the front of the lines, if there is one.
-    fn take(lines: &mut Peekable<impl Iterator<Item = &'a str>>) -> Option<Frame<'a>> {
-        let name = name_in(lines.peek()?)?;
+    fn take(lines: &mut Peekable<impl Iterator<Item = Line<'a>>>) -> Option<Frame<'a>> {
+        let name = name_in(lines.peek()?.0)?;
+        let (_, line) = lines.next()?;
+        let place = lines.next_if(|(plain, _)| path_in(plain).is_some());
         Some(Frame {
-            line: lines.next()?,
             name,
-            place: lines.next_if(|line| path_in(line).is_some()),
+            path: place.and_then(|(plain, _)| path_in(plain)),
+            lines: [Some(line), place.map(|(_, line)| line)],
         })
-    }
-
-    /// Returns the path in the place, if that is known.
-    fn path(self) -> Option<&'a str> {
-        self.place.and_then(path_in)
     }
 
     /// Returns true for a frame of the standard library, or of what runs programs and threads. The place decides, if it is
@@ -125,26 +131,36 @@ impl<'a> Frame<'a> {
         if RUNTIME.contains(&self.name) {
             return true;
         }
-        match self.path() {
+        match self.path {
             Some(path) => is_of_library(path),
-            None => {
-                let name = self.name.trim_start_matches('<');
-                let is_word = |c: char| c.is_ascii_alphanumeric() || c == '_';
-                let rest = name.trim_start_matches(is_word);
-                let is_crate = rest.starts_with("::") || rest.starts_with('[');
-                is_crate && LIBRARY.contains(&&name[..name.len() - rest.len()])
-            }
+            None => crate_of(self.name).is_some_and(|name| LIBRARY.contains(&name)),
         }
     }
 
-    /// Returns true for a frame of Rust sources below the folder in which the test ran: their paths are not absolute.
+    /// Returns true for a frame of Rust sources that cargo has not fetched. It must not be one of the standard library.
     fn is_at_hand(self) -> bool {
-        self.path().is_some_and(|path| {
-            let has_drive = path.chars().nth(1) == Some(':');
-            let is_absolute = path.starts_with(['/', '\\']) || has_drive;
-            !is_absolute && path.contains(".rs:") && !path.contains(".cargo/registry")
+        self.path.is_some_and(|path| {
+            let path = path.replace('\\', "/");
+            path.contains(".rs:") && !FETCHED.iter().any(|folder| path.contains(folder))
         })
     }
+}
+
+/// Returns the crate in the name of a function, or `None` if it has none: that of its type or, if this is a type of the
+/// language such as `fn()`, that of its trait.
+fn crate_of(name: &str) -> Option<&str> {
+    let trait_name = name.split_once(" as ").map(|(_, name)| name);
+    first_crate(name).or_else(|| first_crate(trait_name?))
+}
+
+/// Returns the crate at the front of a path, or `None` if the path begins with something else.
+fn first_crate(path: &str) -> Option<&str> {
+    let path = path.trim_start_matches('<');
+    let is_word = |c: char| c.is_ascii_alphanumeric() || c == '_';
+    let rest = path.trim_start_matches(is_word);
+    let name = &path[..path.len() - rest.len()];
+    let is_crate = rest.starts_with("::") || rest.starts_with('[');
+    (is_crate && !name.is_empty()).then_some(name)
 }
 
 /// Returns the name of the function in the first line of a frame: `4: NAME` or `4: 0x55fc0c1cf08f - NAME`.
@@ -178,6 +194,7 @@ fn is_of_library(path: &str) -> bool {
 #[cfg(test)]
 mod tests {
     use super::*;
+    use crate::report::colours::with_colours_in_lines;
 
     /// A panic of Rust 1.95 with `RUST_BACKTRACE=1`.
     const SHORT: &str = "\
@@ -243,9 +260,10 @@ Stack backtrace:
         let twice = with_short_backtraces(&format!("{SHORT}\n{SHORT}"), Paint::Nothing);
         assert_eq!(twice, Some(format!("{SHOWN}\n{SHOWN}")));
         assert_eq!(with_short_backtraces(SHOWN, Paint::Nothing), None);
-        let full = "Stack backtrace:\n      (3 frames of the standard library)\n  \
-                    22:     0x55fc0c1cf08f - pkg::tests::none::h7c57df450ca78253\n                               \
-                    at /tmp/pkg/src/lib.rs:31:28\n      (3 frames of the standard library)";
+        let full = "Stack backtrace:\n      (3 frames of the standard library)\n\
+                    \u{1b}[1m  22:     0x55fc0c1cf08f - pkg::tests::none::h7c57df450ca78253\u{1b}[0m\n\
+                    \u{1b}[1m                               at /tmp/pkg/src/lib.rs:31:28\u{1b}[0m\n      \
+                    (3 frames of the standard library)";
         assert_eq!(
             with_short_backtraces(FULL, Paint::Colours).as_deref(),
             Some(full)
@@ -261,7 +279,13 @@ Stack backtrace:
         };
         let shown = with_short_backtraces(SHORT, Paint::Colours).expect("it has frames");
         assert!(shown.contains(&frames("\u{1b}[1m", "\u{1b}[0m")), "{shown}");
-        assert_eq!(crate::report::colours::without_colours(&shown), SHOWN);
+        assert_eq!(without_colours(&shown), SHOWN);
+        // The test has left a colour open.
+        let red = with_colours_in_lines(&format!("\u{1b}[31m{SHORT}")).into_owned();
+        let shown = with_short_backtraces(&red, Paint::Colours).expect("it has frames");
+        let frames = frames("\u{1b}[1m\u{1b}[31m", "\u{1b}[0m\u{1b}[0m");
+        assert!(shown.contains(&frames), "{shown}");
+        assert_eq!(without_colours(&shown), SHOWN);
     }
 
     #[test]
@@ -281,7 +305,22 @@ Stack backtrace:
                 Some("./.cargo/registry/src/b-1.0/src/a.rs:1:2"),
                 (false, false),
             ),
-            ("a::f", Some("C:\\x\\src\\a.rs:1:2"), (false, false)),
+            (
+                "a::f",
+                Some("C:\\x\\.cargo\\git\\checkouts\\b-1f\\2e\\src\\a.rs:1:2"),
+                (false, false),
+            ),
+            (
+                "a::f",
+                Some("/usr/share/cargo/registry/b-1.0/src/a.rs:1:2"),
+                (false, false),
+            ),
+            ("a::f", Some("C:\\x\\src\\a.rs:1:2"), (false, true)),
+            (
+                "a::f",
+                Some("/tmp/ws/registry/src/lib.rs:2:23"),
+                (false, true),
+            ),
             ("sqlite3_step", Some("./sqlite3.c:1:2"), (false, false)),
             (
                 "a::f",
@@ -301,7 +340,7 @@ Stack backtrace:
             (
                 "a::f",
                 Some("/work/library/core/src/a.rs:1:2"),
-                (false, false),
+                (false, true),
             ),
             (
                 "__libc_start_main",
@@ -316,6 +355,19 @@ Stack backtrace:
             ),
             ("test[273d]::run_test", None, (true, false)),
             ("__rustc[b797]::rust_begin_unwind", None, (true, false)),
+            (
+                "<fn() -> std::process::ExitCode as core::ops::function::FnOnce<()>>::call_once",
+                None,
+                (true, false),
+            ),
+            (
+                "<&dyn core[c1f1]::ops::function::Fn<()> as core[c1f1]::ops::function::FnOnce<()>>::call_once",
+                None,
+                (true, false),
+            ),
+            ("<[u8] as core::fmt::Debug>::fmt", None, (true, false)),
+            ("<[u8] as pkg::Shown>::shown", None, (false, false)),
+            ("<pkg::A as core::fmt::Debug>::fmt", None, (false, false)),
             ("std_extra::f", None, (false, false)),
             ("test", None, (false, false)),
             ("sqlite3_step", None, (false, false)),
@@ -323,17 +375,14 @@ Stack backtrace:
             ("<unknown>", None, (true, false)),
         ];
         for (name, path, wanted) in cases {
-            let place = path.map(|path| format!("   at {path}"));
             let frame = Frame {
-                line: "",
                 name,
-                place: place.as_deref(),
+                path,
+                lines: [None; 2],
             };
-            assert_eq!(
-                (frame.is_of_library(), frame.is_at_hand()),
-                wanted,
-                "{name} {path:?}"
-            );
+            let is_of_library = frame.is_of_library();
+            let is_at_hand = !is_of_library && frame.is_at_hand();
+            assert_eq!((is_of_library, is_at_hand), wanted, "{name} {path:?}");
         }
     }
 
