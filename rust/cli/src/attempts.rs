@@ -20,8 +20,8 @@ pub struct AttemptOutputs<'a> {
 }
 
 impl<'a> AttemptOutputs<'a> {
-    /// Returns the outputs in the text of a test that passed at its last one of so many attempts. A text without the line of
-    /// a first attempt is the output of the last one.
+    /// Returns the outputs in the text of a test that passed at the last of `attempts` attempts. A text without the line of a
+    /// first attempt is the output of the last one.
     pub fn of(text: &'a str, attempts: usize) -> AttemptOutputs<'a> {
         let mut failed = Vec::new();
         let first = text.strip_prefix(&failed_line(1));

@@ -167,7 +167,7 @@ fn test_values(test: TestModel, class: &str) -> Values {
     }
 }
 
-/// Returns the values of so many attempts that failed, of which some say why.
+/// Returns the values of `count` attempts that failed. Of those in `failed` it is known why.
 fn attempts_values(count: usize, failed: &[AttemptModel]) -> Values {
     let explained = failed.iter().take(MOST_ATTEMPTS).map(|attempt| {
         Values::of("message", text(&attempt.short))

@@ -13,8 +13,8 @@
 //! | the model | `groups` (failures of one cause), `page`, `summary`, `junit`, all with `values` | a page, a summary and JUnit's XML, through the proved templates |
 //!
 //! `program_lines` has what a report needs of lines of programs, `held` the notes that wait for the end of a program, and
-//! `thread_panic` the panics that were printed. `attempts` has the failed attempts of flaky tests. `colours` reads the colours in texts of tests. `diff` and `backtrace` make
-//! the values of failed assertions and the backtraces in them shorter.
+//! `thread_panic` the panics that were printed. `attempts` has the failed attempts of flaky tests. `colours` reads the
+//! colours in texts of tests. `diff` and `backtrace` make the values of failed assertions and the backtraces in them shorter.
 //! `output` has the only types that standard output takes. `escape` shows control characters as escapes such as
 //! `\u{1b}`, and so does the type `ReportText` with what was not escaped before.
 
@@ -229,7 +229,8 @@ impl Report {
     }
 
     /// Notes that the output of a command is read next. Call it before the first line of the output, and
-    /// `finish` after the last one. If `names` has a name for the path in a heading, the suites after the heading have this name.
+    /// `finish` after the last one. If `names` has a name for the path in a heading, the suites after the heading have this
+    /// name.
     pub fn start_command(&mut self, names: SuiteNames) {
         self.run.on_command_started(names);
         self.is_command = true;

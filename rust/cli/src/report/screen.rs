@@ -13,7 +13,7 @@ use unicode_width::UnicodeWidthChar;
 /// What follows a line that is cut.
 const CUT: &str = "..";
 
-/// Variables that terminals with links set, and the values that they then have. An empty value stands for all.
+/// Variables that terminals with links set, and the values that they then have. An empty list means any value.
 const SIGNS_OF_LINKS: [(&str, &[&str]); 8] = [
     (
         "TERM",

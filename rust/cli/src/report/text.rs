@@ -73,8 +73,8 @@ impl TextForm {
         }
     }
 
-    /// Returns the end of the text: the comparison with an earlier run, the list, the numbers that are not 0 and, unless it is for a terminal, the summary for
-    /// scripts. `lacks_events` is true if a command wrote no line of a harness.
+    /// Returns the end of the text: the comparison with an earlier run, the list, the numbers that are not 0 and, unless it
+    /// is for a terminal, the summary for scripts. `lacks_events` is true if a command wrote no line of a harness.
     pub(crate) fn on_end(
         mut self,
         end: &RunEnd,
