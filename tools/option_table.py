@@ -290,7 +290,7 @@ def outputs():
         "    a line before\n    thread 'worker' (2) panicked at src/a.rs:1:2:\n    no money\n    a line between\n"
         "    thread 'pays' (1) panicked at src/b.rs:3:4:\n    the worker panicked\n------------\n"
     )
-    explained = whole.replace("    a line before\n", "FAIL suite 1 pays\n").replace("---", "    (1 more lines of output)\n---", 1)
+    explained = whole.replace("    a line before\n", "FAIL suite 1 pays\n").replace("---", "    (1 more line of output)\n---", 1)
     cut = (
         "FAIL suite 1 pays\n    thread 'worker' (2) panicked at src/a.rs:1:2:\n    no money\n    ..\n"
         "    thread 'pays' (1) panicked at src/b.rs:3:4:\n    the worker panicked\n    (2 more lines of output)\n"
@@ -385,7 +385,7 @@ def levels():
     ]:
         yield Row(f"--success-output {when}", ["--success-output", when], text, 0, wanted)
     below = text.replace("one", "one\\r\\nmore")
-    limited = Parts([head + "    one\n    (1 lines)\n    two\n2 passed\n" + rule])
+    limited = Parts([head + "    one\n    (1 line)\n    two\n2 passed\n" + rule])
     yield Row("--limit of an output of a test that passed", ["--success-output", "immediate", "--limit", "3"], below, 0, limited)
     twice = Parts([head + "    one\n    two\n2 passed\n" + rule])
     yield Row("--limit of two lines of such an output", ["--success-output", "immediate", "--limit", "3"], text, 0, twice)

@@ -1,6 +1,7 @@
 //! Backtraces, in which the frames of the standard library are folded and those of the sources at hand are bright.
 
 use crate::report::colours::{Mark, Paint, without_colours};
+use crate::report::words::counted;
 use std::borrow::Cow;
 use std::iter::Peekable;
 
@@ -107,9 +108,8 @@ fn push_frames<'a>(
 
 /// Returns the line for this number of frames of the standard library, or `None` if there are none.
 fn folded_line<'a>(frames: usize) -> Option<Cow<'a, str>> {
-    let end = if frames == 1 { "" } else { "s" };
-    let line = format!("      ({frames} frame{end} of the standard library)");
-    (frames > 0).then(|| line.into())
+    let frames = (frames > 0).then(|| counted(frames, "frame"));
+    frames.map(|frames| format!("      ({frames} of the standard library)").into())
 }
 
 impl<'a> Frame<'a> {

@@ -2,6 +2,7 @@
 
 use crate::cargo_message::{Artifact, CargoMessage, CompilerMessage, Diagnostic, TargetId};
 use crate::report::escape::{line, name};
+use crate::report::words::counted;
 use deodarsieve_run::CommandEnd;
 use std::collections::hash_map::Entry;
 use std::collections::{HashMap, HashSet};
@@ -217,9 +218,8 @@ impl CompilerError {
 impl FailedTarget<'_> {
     /// Returns the line of the target in the text.
     pub(crate) fn line(&self) -> String {
-        let count = self.errors.len();
-        let end = if count == 1 { "" } else { "s" };
-        format!("could not compile {}: {count} error{end}", self.name)
+        let errors = counted(self.errors.len(), "error");
+        format!("could not compile {}: {errors}", self.name)
     }
 }
 

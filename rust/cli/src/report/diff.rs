@@ -3,6 +3,7 @@
 use crate::report::colours::{Mark, Paint, without_colours};
 use crate::report::debug_lines::lines_of;
 use crate::report::limit::{cuts_alike, shown_change};
+use crate::report::words::counted;
 use similar::{Algorithm, DiffOp, DiffTag, capture_diff_slices, group_diff_ops};
 use std::borrow::Cow;
 use std::collections::HashMap;
@@ -253,8 +254,7 @@ fn diff_text(
 
 /// Returns the line for this number of equal lines that are left out, or `None` if there are none.
 fn left_out(lines: usize) -> Option<String> {
-    let end = if lines == 1 { "" } else { "s" };
-    (lines > 0).then(|| format!("  ({lines} equal line{end})"))
+    (lines > 0).then(|| format!("  ({})", counted(lines, "equal line")))
 }
 
 #[cfg(test)]

@@ -12,7 +12,7 @@ use crate::report::lines::{ten_written, without_returns, written_count};
 use crate::report::options::{Options, OutputDisplay};
 use crate::report::place::Place;
 use crate::report::short::short_reason;
-use crate::report::words::seconds_text;
+use crate::report::words::{counted, seconds_text};
 use deodarsieve_run::{Crash, Failure, FailureKind, Note, TestNote, TestOutcome};
 use std::borrow::Cow;
 use std::cell::OnceCell;
@@ -97,7 +97,7 @@ impl Why {
             Cow::Owned(shown) => (shown, true),
         };
         if hidden > 0 {
-            text.push_str(&format!("\n({hidden} more lines of output)"));
+            text.push_str(&format!("\n({} of output)", counted(hidden, "more line")));
         }
         Why { text, is_partial }
     }

@@ -4,6 +4,7 @@
 use crate::report::colours::{front_and_end, shown_size, without_colours};
 use crate::report::escape::front;
 use crate::report::options::{Options, OutputDisplay};
+use crate::report::words::counted;
 use std::borrow::Cow;
 
 /// A line with more bytes than this is long.
@@ -237,7 +238,7 @@ impl Limit {
         // A line feed is before each line of the middle, and after the last one.
         let lines = middle.iter().filter(|byte| **byte == b'\n').count() - 1;
         let (front, end) = (self.written.lines(front), self.written.lines(end));
-        format!("{front}\n({lines} lines)\n{end}").into()
+        format!("{front}\n({})\n{end}", counted(lines, "line")).into()
     }
 
     /// Returns the front and the end of a text above the limit, each of at least one line, or `None` if there is nothing

@@ -117,6 +117,17 @@ pub(crate) fn summary(end: &RunEnd) -> String {
     )
 }
 
+/// Returns a number and what it counts, such as `1 line` or `2 lines`.
+pub(crate) fn counted(number: usize, one: &str) -> String {
+    format!("{number} {}", plural(number, one))
+}
+
+/// Returns the word for this number of things, such as `line` or `lines`.
+fn plural(number: usize, one: &str) -> String {
+    let end = if number == 1 { "" } else { "s" };
+    format!("{one}{end}")
+}
+
 /// Returns the numbers of a run that are not 0, in words with their styles, the worst first. `errors` is the number of
 /// contradictions.
 pub(crate) fn numbers_in_words(numbers: Numbers, errors: usize) -> Vec<(String, Style)> {
@@ -135,14 +146,13 @@ pub(crate) fn numbers_in_words(numbers: Numbers, errors: usize) -> Vec<(String, 
         (numbers.crashed, "crashed"),
     ]);
     let passed = more(&[(numbers.flaky, "flaky"), (numbers.slow, "slow")]);
-    let plural = if errors == 1 { "" } else { "s" };
     let parts = [
         (
             numbers.failed as u128,
             format!("failed{failed}"),
             Style::BoldRed,
         ),
-        (errors as u128, format!("error{plural}"), Style::BoldRed),
+        (errors as u128, plural(errors, "error"), Style::BoldRed),
         (numbers.not_run, "not run".to_string(), Style::BoldYellow),
         (
             numbers.passed as u128,

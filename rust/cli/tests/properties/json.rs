@@ -251,7 +251,7 @@ fn take_failure(test: &mut Value) -> ShownFailure {
     });
     let why = take_text(test, "why").expect("a failed test has a reason");
     let is_number = |line: &str| {
-        let ends = [" lines)", " more lines of output)"];
+        let ends = [" line)", " lines)", " line of output)", " lines of output)"];
         line.starts_with('(') && ends.iter().any(|end| line.ends_with(end))
     };
     ShownFailure {
@@ -482,7 +482,12 @@ pub fn limited(text: &str, options: Options) -> String {
         return text.to_string();
     }
     let (front, middle, end) = (&lines[..front], count - front - end, &lines[count - end..]);
-    format!("{}\n({middle} lines)\n{}", front.join("\n"), end.join("\n"))
+    let word = if middle == 1 { "line" } else { "lines" };
+    format!(
+        "{}\n({middle} {word})\n{}",
+        front.join("\n"),
+        end.join("\n")
+    )
 }
 
 /// Returns what a failed test shows above its output: the reason and the message.
