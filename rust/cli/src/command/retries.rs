@@ -313,7 +313,7 @@ fn with_texts(event: &[u8], texts: &[(&str, &str)]) -> Vec<u8> {
     changed().unwrap_or_else(|| event.to_vec())
 }
 
-/// Returns the last line of a suite of which so many failed tests have passed since.
+/// Returns the last line of a suite, given how many of its failed tests have passed since.
 fn after_retries(event: &[u8], count: u64) -> Vec<u8> {
     let changed = || {
         let mut members: Members = serde_json::from_slice(event).ok()?;

@@ -176,12 +176,12 @@ fn the_middle_of_a_long_reason_is_left_out() {
     ] {
         let run = run_of("failed", json!({"message": message}));
         let lines: Vec<&str> = message.split('\n').collect();
-        let middle = lines.len() - front - end;
-        let wanted = match middle {
+        let wanted = match lines.len() - front - end {
             0 => message.to_string(),
             middle => format!(
-                "{}\n({middle} lines)\n{}",
+                "{}\n({middle} line{})\n{}",
                 lines[..front].join("\n"),
+                if middle == 1 { "" } else { "s" },
                 lines[lines.len() - end..].join("\n")
             ),
         };
@@ -201,8 +201,8 @@ fn what_is_left_of_the_limit_has_lines_before_the_explanation() {
     for (limit, wanted) in [
         (output.trim_end().len(), "one\n\ntwo\nError: no money"),
         // The blank line would fit, and is left out. It does not count.
-        (23, "two\nError: no money\n(1 more lines of output)"),
-        (20, "two\nError: no money\n(1 more lines of output)"),
+        (23, "two\nError: no money\n(1 more line of output)"),
+        (20, "two\nError: no money\n(1 more line of output)"),
         (19, "Error: no money\n(2 more lines of output)"),
         (3, "Error: no money\n(2 more lines of output)"),
     ] {
@@ -218,7 +218,7 @@ fn what_is_left_of_the_limit_has_lines_before_the_explanation() {
     assert_eq!(json_of(&run, short)["why"], wanted);
     // The reason counts, too.
     assert_eq!(json_of(&run, limited(23))["why"], wanted);
-    let wanted = "why\ntwo\nError: no money\n(1 more lines of output)";
+    let wanted = "why\ntwo\nError: no money\n(1 more line of output)";
     assert_eq!(json_of(&run, limited(24))["why"], wanted);
 }
 
@@ -274,7 +274,7 @@ fn the_output_of_a_passed_test() {
     );
     let all = format!("PASS suite 1 a\n    1\n    2\n    3\n{cut}");
     assert!(text(600).starts_with(&all), "{}", text(600));
-    let middle = format!("PASS suite 1 a\n    1\n    2\n    (1 lines)\n{cut}");
+    let middle = format!("PASS suite 1 a\n    1\n    2\n    (1 line)\n{cut}");
     assert!(text(6).starts_with(&middle), "{}", text(6));
 }
 

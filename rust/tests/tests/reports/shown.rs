@@ -202,7 +202,7 @@ fn short_reasons() {
         name: "the last ten lines that are not blank",
         lines: TWELVE_LINES,
         notes: "FAIL suite 1 a\n    2\n    3\n    4\n    5\n    6\n    7\n    8\n    10\n    11\n    12\n    \
-            (1 more lines of output)\n",
+            (1 more line of output)\n",
         numbers: "1 failed",
         summary: "1 tests run: 0 passed (0 flaky), 1 failed (0 timed out, 0 crashed), 0 skipped, 0 not run",
         list: "        FAIL suite 1 a: 2\n",

@@ -130,7 +130,7 @@ fn the_limit_counts_what_is_shown() {
     assert!(text.contains(&whole), "{text}");
     let text = shown(&output, Format::Text, limited(whole.len() - 1));
     assert!(text.contains(&whole["log\n".len()..]), "{text}");
-    assert!(text.contains("\n(1 more lines of output)\n"), "{text}");
+    assert!(text.contains("\n(1 more line of output)\n"), "{text}");
 }
 
 #[test]
