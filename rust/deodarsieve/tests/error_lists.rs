@@ -249,4 +249,7 @@ fn captured_bytes_are_text() {
     assert!(std::ptr::eq(lossy, damaged.as_str_lossy()));
     assert_eq!(damaged, ChildSingleOutput::from(damaged.buf().clone()));
     assert_ne!(damaged, text);
+    let other = ChildSingleOutput::from(Bytes::from_static("à la cart!\n".as_bytes()));
+    assert_eq!(other.buf().len(), text.buf().len());
+    assert_ne!(other, text);
 }

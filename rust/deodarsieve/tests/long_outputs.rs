@@ -1,6 +1,9 @@
 //! Slices of long outputs, whose searches go block by block from the end.
 
-use deodarsieve::{ByteSubslice, TestOutputErrorSlice, heuristic_panic_message};
+use deodarsieve::{
+    ByteSubslice, TestOutputErrorSlice, heuristic_error_str, heuristic_panic_message,
+    heuristic_should_panic,
+};
 
 /// A line of a log, of 64 bytes.
 const LINE: &[u8] = b"[00:00:01.209 TRACE wire::frame] read 4096 bytes, kind Headers.\n";
@@ -121,5 +124,33 @@ fn the_last_panic_of_a_long_block_is_found() {
         let output = [message.repeat(count), LINE.repeat(100)].concat();
         let part = heuristic_panic_message(&output).expect("there is a panic");
         assert_eq!(part.start, (count - 1) * message.len());
+    }
+}
+
+/// A search by a rare byte gives up after many of these bytes, and what it looks for is still found.
+#[test]
+fn a_message_among_many_rare_bytes_is_found() {
+    let panic = "thread 'a' panicked at src/lib.rs:1:1:\n";
+    let note = "note: test did not panic as expected\n";
+    let rares = ["k", "E", "x", "'", "kEx'"];
+    let counts = [8, 9, 10, 40, 400];
+    for many in rares
+        .iter()
+        .flat_map(|rare| counts.map(|count| rare.repeat(count)))
+    {
+        let after = many.len() + 1;
+        let start = |part: Option<ByteSubslice<'_>>| part.map(|part| part.start);
+        let output = format!("{many}\n{panic}{panic}{many}\n");
+        let found = heuristic_panic_message(output.as_bytes());
+        assert_eq!(start(found), Some(after + panic.len()), "{output}");
+        let output = format!("{many}\n{panic}thread 'x' started\n{many} panicked at \n");
+        let found = heuristic_panic_message(output.as_bytes());
+        assert_eq!(start(found), Some(after), "{output}");
+        let output = format!("{many}\nError: why\n{many}\nError: no\n");
+        let found = heuristic_error_str(output.as_bytes());
+        assert_eq!(start(found), Some(after), "{output}");
+        let output = format!("{many}\n{note}{many}\n{note}");
+        let found = heuristic_should_panic(output.as_bytes());
+        assert_eq!(start(found), Some(after), "{output}");
     }
 }

@@ -1,7 +1,8 @@
 //! Each type, matched from outside the crate. The matches are not called: they compile only if
 //! every variant and field that they name is public, if the enums in `open!` are `non_exhaustive`, if
-//! those in `open_without_feature!` are without the feature `exhaustive`, and if no other is. `CancelReason` and `RunStats` are not here: the package deodarsieve-c matches
-//! all variants of the one, and makes the other from all fields.
+//! those in `open_without_feature!` are without the feature `exhaustive`, and if no other is.
+//! `CancelReason` and `RunStats` are not here: the package deodarsieve-c matches all variants of the
+//! one, and makes the other from all fields.
 #![deny(unreachable_patterns)]
 #![allow(dead_code, reason = "that it compiles is the test")]
 

@@ -140,3 +140,26 @@ fn a_flaky_test_has_the_level_of_its_setting() {
         FinalStatusLevel::Fail
     );
 }
+
+#[test]
+fn only_a_successful_run_is_a_success() {
+    let run = |passed, failed, cancel_reason| {
+        let stats = RunStats {
+            initial_run_count: 1,
+            finished_count: passed + failed,
+            passed,
+            failed,
+            cancel_reason,
+            ..RunStats::default()
+        };
+        stats.summarize_final()
+    };
+    assert!(run(1, 0, None).is_success());
+    for summary in [
+        run(0, 1, None),
+        run(0, 0, Some(CancelReason::Interrupt)),
+        RunStats::default().summarize_final(),
+    ] {
+        assert!(!summary.is_success(), "{summary:?}");
+    }
+}

@@ -9,7 +9,7 @@ use deodarsieve::{
 };
 
 /// The code of a process that Ctrl-C ended.
-const CONTROL_C: i32 = 0xc000_013a_u32.cast_signed();
+const CONTROL_C: i32 = 0xc000_013a_u32 as i32;
 
 #[test]
 fn aborts_are_shown_on_one_line() {

@@ -4,7 +4,8 @@
 //! `data/upstream_replay.txt.gz` has a case in each line: the name of its kind, a space, and the case.
 //! Each module has the form of its kind of case. A line that begins with `changed` has a case with
 //! another result than nextest's, and a line that begins with `malformed` has no case. These two kinds
-//! show that the replay notices a wrong line.
+//! show that the replay notices a wrong line. The rows of `SerializableError` as JSON are compared with
+//! the feature `serde_json` alone.
 
 #[allow(dead_code, reason = "other tests use the other samples")]
 #[path = "../fixtures/mod.rs"]
@@ -23,6 +24,18 @@ mod words;
 
 use flate2::read::GzDecoder;
 use std::io::Read;
+
+/// What lines begin with.
+const KINDS: [&str; 8] = [
+    "counter",
+    "extract",
+    "heads",
+    "level",
+    "row",
+    "visibility",
+    "changed",
+    "malformed",
+];
 
 const PACKED: &[u8] = include_bytes!("../data/upstream_replay.txt.gz");
 
@@ -58,7 +71,11 @@ fn is_compared(line: &str) -> bool {
 fn all_lines_agree() {
     let mut lines = String::new();
     let read = GzDecoder::new(PACKED).read_to_string(&mut lines);
-    assert!(read.expect("the file is whole") > 0);
+    assert!(read.is_ok(), "the file is whole");
+    for kind in KINDS {
+        let begins = |line: &str| line.split(' ').next() == Some(kind);
+        assert!(lines.lines().any(begins), "no line begins with {kind}");
+    }
     let wrong: Vec<&str> = lines
         .lines()
         .filter(|line| is_compared(line) && agrees(line) != Some(true))

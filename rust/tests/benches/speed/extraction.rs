@@ -17,11 +17,15 @@ enum Streams {
     Both,
 }
 
-/// An output, and the start and the end of the part that must be extracted from it.
+/// The kinds of slices, as the library for C numbers them.
+const PANIC: u32 = 1;
+const ERROR: u32 = 2;
+
+/// An output, and the kind, the start and the end of the part that must be extracted from it.
 struct Extraction {
     bytes: Vec<u8>,
     streams: Streams,
-    part: Option<(usize, usize)>,
+    part: Option<(u32, usize, usize)>,
 }
 
 impl Extraction {
@@ -39,9 +43,15 @@ impl Extraction {
     fn extract(&self) {
         let (stdout, stderr) = self.streams();
         let found = TestOutputErrorSlice::heuristic_extract(stdout, stderr);
-        let part = found.and_then(|found| found.combined_subslice());
-        let ends = part.map(|part| (part.start, part.start + part.slice.len()));
-        assert_eq!(ends, self.part);
+        let part = found.map(|found| {
+            let (kind, part) = match found {
+                TestOutputErrorSlice::PanicMessage { stderr_subslice } => (PANIC, stderr_subslice),
+                TestOutputErrorSlice::ErrorStr { stderr_subslice } => (ERROR, stderr_subslice),
+                other => panic!("no panic and no error: {other:?}"),
+            };
+            (kind, part.start, part.start + part.slice.len())
+        });
+        assert_eq!(part, self.part);
     }
 
     /// Extracts from the output with the library.
@@ -50,15 +60,18 @@ impl Extraction {
         use deodarsieve_archive::sys::{extract, written};
         let (stdout, stderr) = self.streams();
         let found = written(|answer| extract(stdout, stderr, answer)).expect("the status is OK");
-        let ends = (found.kind != 0).then_some((found.start, found.start + found.length));
-        assert_eq!(ends, self.part);
+        let part = (found.kind, found.start, found.start + found.length);
+        assert_eq!((found.kind != 0).then_some(part), self.part);
     }
 }
 
 /// Returns the extraction from an output of a size in bytes.
 fn work(output: &Output, streams: Streams, size: usize) -> Work {
     let bytes = output.bytes(size);
-    let part = output.part_in(&bytes);
+    let part = output.part_in(&bytes).map(|(start, end)| {
+        let is_error = bytes[start..].starts_with(b"Error: ");
+        (if is_error { ERROR } else { PANIC }, start, end)
+    });
     let extraction = Rc::new(Extraction {
         bytes,
         streams,
