@@ -8,10 +8,12 @@ use crate::output_slice::panic_head::{HeadSpan, last_panic_head};
 use crate::output_slice::signs::{Sign, heads_end, last_sign};
 use bstr::ByteSlice;
 
-/// A line feed and the prefix of a head. The rare byte is the quote.
+/// A line feed and the prefix of a head. The rare byte is the quote. It is searched for in each part
+/// before a marker, and a part can be short: so a search may have more misses.
 const OPENING: Sign = Sign {
     text: b"\nthread '",
     rare: 8,
+    free_misses: 64,
 };
 
 /// Returns the offset of the last line that begins with `thread '`.

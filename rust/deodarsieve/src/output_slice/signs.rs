@@ -17,11 +17,12 @@ const BLOCK_SIZE: usize = 131_072;
 /// faster than `find` of `bstr`, which builds a searcher at each call.
 const SHORT_BLOCK_SIZE: usize = 2_048;
 
-/// The misses that a search by a rare byte may always have: rare bytes that are in no marker.
-const FREE_MISSES: usize = 8;
-
-/// The bytes that the search must pass for each further miss. With more misses `find` is faster.
+/// The bytes that a search by a rare byte must pass for each miss, which is a rare byte that is in no marker, after the
+/// first ones. With more misses `find` is faster.
 const BYTES_PER_MISS: usize = 32;
+
+/// How many first ones a search of a whole output may have.
+const FREE_MISSES: u8 = 8;
 
 /// A marker, or another text that is searched for, with the offset in it of a byte that is rare in
 /// output.
@@ -29,24 +30,30 @@ const BYTES_PER_MISS: usize = 32;
 pub(crate) struct Sign {
     pub(crate) text: &'static [u8],
     pub(crate) rare: usize,
+
+    /// How many misses a search may have without passing bytes for them.
+    pub(crate) free_misses: u8,
 }
 
 /// The end of a panic's head.
 const PANIC_SIGN: Sign = Sign {
     text: b" panicked at ",
     rare: 6,
+    free_misses: FREE_MISSES,
 };
 
 /// A line feed and the start of an error.
 pub(crate) const ERROR_SIGN: Sign = Sign {
     text: b"\nError: ",
     rare: 1,
+    free_misses: FREE_MISSES,
 };
 
 /// The note that a test did not panic.
 pub(crate) const NOTE: Sign = Sign {
     text: b"note: test did not panic as expected",
     rare: 29,
+    free_misses: FREE_MISSES,
 };
 
 /// The last words of the note, which are its marker: a search for a few words is faster than for the
@@ -54,6 +61,7 @@ pub(crate) const NOTE: Sign = Sign {
 const NOTE_SIGN: Sign = Sign {
     text: b"panic as expected",
     rare: 10,
+    free_misses: FREE_MISSES,
 };
 
 /// For each stream, an offset at or after which no marker begins.
@@ -129,7 +137,7 @@ fn last_by_rare_byte(bytes: &[u8], sign: Sign) -> Option<usize> {
         }
         end = at;
         misses += 1;
-        if are_too_many(misses, bytes.len() - end) {
+        if are_too_many(misses, sign, bytes.len() - end) {
             return last_by_find(&bytes[..reach(bytes, sign, end)], sign);
         }
     }
@@ -147,7 +155,7 @@ fn first_by_rare_byte(bytes: &[u8], sign: Sign) -> Option<usize> {
         }
         from = at + 1;
         misses += 1;
-        if are_too_many(misses, from) {
+        if are_too_many(misses, sign, from) {
             let rest = from.saturating_sub(sign.rare);
             let gap = bytes[rest..].find(sign.text)?;
             return Some(rest + gap);
@@ -156,10 +164,10 @@ fn first_by_rare_byte(bytes: &[u8], sign: Sign) -> Option<usize> {
     None
 }
 
-/// Returns true if a search by a rare byte with so many misses in the bytes that it passed is slower
-/// than `find`.
-fn are_too_many(misses: usize, passed: usize) -> bool {
-    misses > FREE_MISSES + passed / BYTES_PER_MISS
+/// Returns true if a search by a rare byte with these misses in the bytes that it passed is slower than
+/// `find`.
+fn are_too_many(misses: usize, sign: Sign, passed: usize) -> bool {
+    misses > usize::from(sign.free_misses) + passed / BYTES_PER_MISS
 }
 
 /// Returns the offset of the `sign` whose rare byte is at `at`, or `None` if there is none.
