@@ -29,7 +29,7 @@ pub struct FailedTests {
     programs: BTreeMap<String, FailedProgram>,
 }
 
-/// A program, of which perhaps no tests are to run again.
+/// A program, and which of its tests are to run again: perhaps none.
 #[derive(Clone, Debug, PartialEq, Eq, Serialize, Deserialize)]
 struct FailedProgram {
     /// The number of its tests, if that is known.
@@ -168,8 +168,8 @@ impl FailedTests {
         failed.extend(missing.instead.iter().cloned());
     }
 
-    /// Returns how many tests are to run again, of how many that the programs have: `15 of 63 tests`. Programs of which
-    /// that is not known are counted apart.
+    /// Returns the numbers of the tests that are to run again and of all tests: `15 of 63 tests`. A program whose number of
+    /// tests is not known is counted apart.
     pub fn words(&self) -> String {
         let (mut left, mut all, mut programs) = (0, 0, 0);
         for FailedProgram { tests, left: which } in self.programs.values() {

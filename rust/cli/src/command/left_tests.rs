@@ -23,7 +23,7 @@ pub enum LeftTests {
 }
 
 impl LeftTests {
-    /// Returns the tests of which it is known that they failed.
+    /// Returns the tests that failed, as far as it is known.
     pub(super) fn failed(&self) -> &BTreeSet<String> {
         match self {
             LeftTests::Only { only: failed } | LeftTests::Except { failed, .. } => failed,

@@ -1,4 +1,5 @@
-//! What the stand-ins of a run are told, in a file: the test programs, and which of their tests run how often.
+//! The file that the stand-ins of a run read: the test programs, which of their tests run, and how often a failed one runs
+//! again.
 
 use super::failed_tests::{FailedTests, counted};
 use super::run_line::StartedProgram;
@@ -53,7 +54,7 @@ impl TestProgram {
     }
 }
 
-/// What stand-ins are told. A part that is absent says nothing.
+/// The content of this file. Each part can be absent.
 #[derive(Clone, Debug, Default, PartialEq, Eq, Serialize, Deserialize)]
 #[serde(default)]
 pub struct Plan {
@@ -88,7 +89,7 @@ impl Retries {
 }
 
 impl Plan {
-    /// Returns what this stand-in is told. Without a file that is nothing.
+    /// Returns the content of the file for this stand-in. Without a file, all parts are absent.
     pub fn given() -> Plan {
         let file = env::var_os(PROGRAMS);
         let plan = file.and_then(|file| read_plan(Path::new(&file)).ok());

@@ -58,7 +58,7 @@ pub struct MissingTests {
 }
 
 impl MissingTests {
-    /// Returns the tests of which a line says that they are missing, if it is such a line of this program.
+    /// Reads a line of this program about missing tests. Returns `None` for any other line.
     pub fn read(line: &[u8]) -> Option<MissingTests> {
         let event: Value = serde_json::from_slice(line).ok()?;
         let is_missing = event["type"] == "program" && event["event"] == "missing";

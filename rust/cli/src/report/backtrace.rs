@@ -247,7 +247,7 @@ Stack backtrace:
   18:     0x55fc0c1cf08f - core::option::Option<T>::unwrap::hbd60b116fbf2a6ee
                                at /rustc/59807616e1fa2540724bfbac14d7976d7e4a3860/library/core/src/option.rs:1016:21
   22:     0x55fc0c1cf08f - pkg::tests::none::h7c57df450ca78253
-                               at /tmp/pkg/src/lib.rs:31:28
+                               at /ws/pkg/src/lib.rs:31:28
   44:     0x7f2b9a9a1d00 - start_thread
                                at ./nptl/./nptl/pthread_create.c:448:8
   45:     0x7f2b9a9a1d00 - <unknown>
@@ -262,7 +262,7 @@ Stack backtrace:
         assert_eq!(with_short_backtraces(SHOWN, Paint::Nothing), None);
         let full = "Stack backtrace:\n      (3 frames of the standard library)\n\
                     \u{1b}[1m  22:     0x55fc0c1cf08f - pkg::tests::none::h7c57df450ca78253\u{1b}[0m\n\
-                    \u{1b}[1m                               at /tmp/pkg/src/lib.rs:31:28\u{1b}[0m\n      \
+                    \u{1b}[1m                               at /ws/pkg/src/lib.rs:31:28\u{1b}[0m\n      \
                     (3 frames of the standard library)";
         assert_eq!(
             with_short_backtraces(FULL, Paint::Colours).as_deref(),
@@ -316,11 +316,7 @@ Stack backtrace:
                 (false, false),
             ),
             ("a::f", Some("C:\\x\\src\\a.rs:1:2"), (false, true)),
-            (
-                "a::f",
-                Some("/tmp/ws/registry/src/lib.rs:2:23"),
-                (false, true),
-            ),
+            ("a::f", Some("/ws/registry/src/lib.rs:2:23"), (false, true)),
             ("sqlite3_step", Some("./sqlite3.c:1:2"), (false, false)),
             (
                 "a::f",
@@ -337,11 +333,7 @@ Stack backtrace:
                 Some("/usr/src/rustc-1.63.0/library/core/src/a.rs:1:2"),
                 (true, false),
             ),
-            (
-                "a::f",
-                Some("/work/library/core/src/a.rs:1:2"),
-                (false, true),
-            ),
+            ("a::f", Some("/ws/library/core/src/a.rs:1:2"), (false, true)),
             (
                 "__libc_start_main",
                 Some("./csu/../csu/libc-start.c:392:3"),
