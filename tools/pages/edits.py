@@ -11,7 +11,7 @@ METHOD = re.compile(r"^    (pub )?(?:const |unsafe )?fn (\w+)", re.M)
 def owner_of(kind, head):
     """Returns the name of the type that an impl is for, or of the trait."""
     head = re.sub(r"^\s*<.*?>\s(?=\w)", "", head) if kind == "impl" else head
-    return re.match(r"\s*&?(?:\w+::)*(\w+)", head.split(" where ")[0].split(" for ")[-1])[1]
+    return re.match(r"\s*&?(?:'\w+ )?(?:\w+::)*(\w+)", head.split(" where ")[0].split(" for ")[-1])[1]
 
 
 def public_functions(sources):
