@@ -39,11 +39,9 @@ REMOVED_DERIVES = {"MemorySource": ("Copy",), "UnitErrorDescription": ("Copy",)}
 # Types that cannot be cloned, since they borrow what they write to exclusively.
 NO_CLONE = ("MemorySink",)
 
-# Types whose `Debug` is written by hand: a derived one would go down a chain of causes, would write text as numbers or
-# twice, or would show the names of private fields, which nextest's types do not have.
-NO_DEBUG = (
-    "ByteSubslice", "ChildSingleOutput", "NonZeroDuration", "SerializableError", "SerializableErrorSources",
-)
+# Types whose `Debug` is written by hand: a derived one would call itself for each cause of a chain, or would write text
+# as numbers or twice.
+NO_DEBUG = ("ByteSubslice", "ChildSingleOutput", "SerializableError")
 
 # Types to which cases or fields may be added, and the attribute that says so: those of which nextest says so, whose
 # cases nextest's own code matches without an arm for others, and three that nextest does not have.

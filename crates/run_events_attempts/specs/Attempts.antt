@@ -1,5 +1,5 @@
 -- The attempts of a test, and the parts of them that decide how it counts.
-use Rattle.std.specs.Prelude.{◌≡◌, ◌<◌, ◌≤◌, ◌⊎◌, ◌-◌, false, List, Option, length, slice_get}
+use Rattle.std.specs.Prelude.{◌≡◌, ◌<◌, ◌≤◌, ◌⊎◌, ◌-◌, ℕ, false, List, Option, codes, length, slice_get}
 use Rattle.std.specs.Option.{option_map_or}
 use Rattle.run_events_results.specs.declared.config.FlakyResult.{FlakyResult}
 use Rattle.run_events_results.specs.declared.results.ExecutionResultDescription.TheVariants.{Pass}
@@ -31,6 +31,10 @@ view_of t =
       is_slow = option_map_or (λ s. s.is_slow) last false;
       flaky_result = flaky_result_of t;
     }
+
+-- the text of the error if a list of attempts is empty
+abbrev pub empty_statuses_text : List ℕ
+empty_statuses_text = codes "a finished test has at least one attempt, but the list of attempts is empty"
 
 -- the attempts that are left to visit, in order
 abbrev pub attempts_left : {S D : Type 0} → ExecutionStatusesIter S D → List (ExecuteStatus S D)

@@ -1,5 +1,6 @@
 -- The reading of a JSON value as an error chain.
-use Rattle.std.specs.Prelude.{◌≡◌, MatchResult, ℕ, List, [], ◌∷◌, codes, map, not, position, Option, None, Some, unwrap_or, is_some, if◌then◌else◌, Result, Ok, Err}
+use Rattle.std.specs.Prelude.{◌≡◌, MatchResult, ℕ, List, [], ◌∷◌, ◌++◌, codes, map, not, position, Option, None, Some, unwrap_or, is_some, if◌then◌else◌, Result, Ok, Err}
+use Rattle.std.specs.Fmt.{decimal}
 use Rattle.std.specs.Option.{ok_or, option_map_or}
 use Rattle.serde_json.specs.Data.{Data, Items, no_items, item}
 use Rattle.serde_json.specs.Find.{get, as_str, as_array, as_object}
@@ -38,6 +39,15 @@ read_chain d =
     if is_some (as_object d)
     then read_both (read_message (get (codes "message") d)) (read_causes (get (codes "causes") d))
     else Err NotAnObject
+
+-- the text of the error if a value is not a chain
+abbrev pub reading_error_text : FromValueError → List ℕ
+reading_error_text NotAnObject = codes "the error is not an object"
+reading_error_text MessageMissing = codes "the error has no member `message`"
+reading_error_text MessageNotText = codes "the member `message` is not a string"
+reading_error_text CausesNotAList = codes "the member `causes` is not a list"
+reading_error_text (CauseNotText index) = codes "the item " ++ decimal index ++ codes " of `causes` is not a string"
+reading_error_text OutOfMemory = codes "out of memory"
 
 -- the result is this chain, or memory was refused
 abbrev pub IsChainUnlessMemory : ErrorChain → Result ErrorChain FromValueError → Type 0

@@ -92,7 +92,7 @@ impl SerializableError {
         ensures { result ≡ self.now.causes }
     {
         SerializableErrorSources {
-            next: self.source(),
+            current: self.source(),
         }
     }
 }
@@ -148,7 +148,7 @@ impl Eq for SerializableError {
 /// An iterator over the causes of an error, the nearest first.
 #[derive(Debug, Drop)]
 pub struct SerializableErrorSources<'a> {
-    next: Option<&'a SerializableError>,
+    current: Option<&'a SerializableError>,
 }
 
 impl<'a> Model for SerializableErrorSources<'a> {
@@ -159,7 +159,7 @@ impl<'a> Model for SerializableErrorSources<'a> {
     // Contracts see it as the texts of the causes that are left.
     ghost Value = { List (List ℕ) };
 
-    ghost view = { λ s. option_map_or (λ e. texts e.now) s.next [] };
+    ghost view = { λ s. option_map_or (λ e. texts e.now) s.current [] };
 }
 
 impl<'a> Iterator for SerializableErrorSources<'a> {
@@ -170,8 +170,8 @@ impl<'a> Iterator for SerializableErrorSources<'a> {
     ghost remaining = { item_count cause_chains };
 
     fn next(&mut self) -> Option<&'a SerializableError> {
-        let error = self.next?;
-        self.next = error.source();
+        let error = self.current?;
+        self.current = error.source();
         Some(error)
     }
 }

@@ -10,9 +10,7 @@ use std::time::Duration;
 
 /// A duration that is not zero.
 #[derive(Clone, Copy, Debug, PartialEq, Eq)]
-pub struct NonZeroDuration {
-    duration: Duration,
-}
+pub struct NonZeroDuration(Duration);
 
 impl Model for NonZeroDuration {
     ghost use Rattle.std.specs.Prelude.{◌<◌};
@@ -22,11 +20,11 @@ impl Model for NonZeroDuration {
     // Contracts see it as the duration.
     ghost Value = { Duration };
 
-    ghost view = { λ d. d.duration };
+    ghost view = { λ d. d.0 };
 
-    ghost invariant = { λ d. 0 < as_nanos d.duration };
+    ghost invariant = { λ d. 0 < as_nanos d.0 };
 
-    ghost inverse = { λ d. record { duration = d } };
+    ghost inverse = { λ d. record { 0 = d } };
 }
 
 impl NonZeroDuration {
@@ -38,7 +36,7 @@ impl NonZeroDuration {
         if duration.is_zero() {
             None
         } else {
-            Some(NonZeroDuration { duration })
+            Some(NonZeroDuration(duration))
         }
     }
 
@@ -47,7 +45,7 @@ impl NonZeroDuration {
         ensures same { result ≡ self }
         ensures not_zero { 0 < as_nanos result }
     {
-        self.duration
+        self.0
     }
 }
 

@@ -7,6 +7,7 @@ use crate::attempts::description::ExecutionDescription;
 use crate::child::OutputSpec;
 use run_events_results::config::FlakyResult;
 use run_events_results::view::TestView;
+use std::fmt;
 
 /// All attempts of a finished test, in order, and how the test counts if it is flaky. There is always
 /// at least one attempt.
@@ -20,6 +21,19 @@ pub struct ExecutionStatuses<S: OutputSpec> {
 /// The error if a list of attempts is empty. A finished test has at least one attempt.
 #[derive(Clone, Copy, Debug, PartialEq, Eq)]
 pub struct EmptyStatuses;
+
+impl fmt::Display for EmptyStatuses {
+    ghost use Rattle.std.specs.Prelude.{Some};
+    ghost use Rattle.run_events_attempts.specs.Attempts.{empty_statuses_text};
+
+    ghost output = { λ _. Some empty_statuses_text };
+
+    ghost styled_output = { λ _ _. Some empty_statuses_text };
+
+    fn fmt<W: fmt::Write>(&self, f: &mut fmt::Formatter<W>) -> fmt::Result {
+        f.write_str("a finished test has at least one attempt, but the list of attempts is empty")
+    }
+}
 
 impl<S: OutputSpec> ExecutionStatuses<S> {
     ghost use Rattle.std.specs.Prelude.{◌≡◌, ◌↔◌, ◌<◌, [], IfOk, IsErr, Some, length, vec_len};
@@ -152,6 +166,22 @@ impl<'a, S: OutputSpec> DoubleEndedIterator for ExecutionStatusesIter<'a, S> {
         let (last, rest) = self.rest.split_last()?;
         self.rest = rest;
         Some(last)
+    }
+}
+
+/// Iterates over the attempts, in order.
+impl<'a, S: OutputSpec> IntoIterator for &'a ExecutionStatuses<S> {
+    ghost use Rattle.std.specs.Prelude.{◌≡◌};
+    ghost use Rattle.run_events_attempts.specs.Attempts.{attempts_left, attempts_of};
+
+    type Item = &'a ExecuteStatus<S>;
+
+    type IntoIter = ExecutionStatusesIter<'a, S>;
+
+    ghost into_iter_gives = { λ t i. attempts_left i ≡ attempts_of t.now };
+
+    fn into_iter(self) -> ExecutionStatusesIter<'a, S> {
+        self.iter()
     }
 }
 

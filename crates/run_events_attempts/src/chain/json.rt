@@ -13,6 +13,7 @@ ghost use Rattle.run_events_attempts.specs.ChainObject.{chain_object, texts_of};
 use crate::chain::SerializableError;
 use serde_json::{Map, Value, put};
 use std::alloc::{AllocError, Global};
+use std::fmt;
 
 /// Why a JSON value is not an error with its causes.
 #[derive(Clone, Copy, Debug, PartialEq, Eq)]
@@ -37,6 +38,26 @@ pub enum FromValueError {
 
     /// There was not enough memory.
     OutOfMemory,
+}
+
+impl fmt::Display for FromValueError {
+    ghost use Rattle.std.specs.Prelude.{Some};
+    ghost use Rattle.run_events_attempts.specs.ChainReading.{reading_error_text};
+
+    ghost output = { λ e. Some (reading_error_text e) };
+
+    fn fmt<W: fmt::Write>(&self, f: &mut fmt::Formatter<W>) -> fmt::Result {
+        match self {
+            FromValueError::NotAnObject => f.write_str("the error is not an object"),
+            FromValueError::MessageMissing => f.write_str("the error has no member `message`"),
+            FromValueError::MessageNotText => f.write_str("the member `message` is not a string"),
+            FromValueError::CausesNotAList => f.write_str("the member `causes` is not a list"),
+            FromValueError::CauseNotText { index } => {
+                write!(f, "the item {index} of `causes` is not a string")
+            }
+            FromValueError::OutOfMemory => f.write_str("out of memory"),
+        }
+    }
 }
 
 impl From<AllocError> for FromValueError {

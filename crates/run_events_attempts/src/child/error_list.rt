@@ -67,6 +67,36 @@ impl<T> ErrorList<T> {
     }
 }
 
+impl<'a, T> IntoIterator for &'a ErrorList<T> {
+    type Item = &'a T;
+
+    type IntoIter = Iter<'a, T>;
+
+    ghost into_iter_gives = { λ l i. iter_rest i ≡ l.now.items };
+
+    fn into_iter(self) -> Iter<'a, T> {
+        self.iter()
+    }
+}
+
+impl<T: Drop> IntoIterator for ErrorList<T> {
+    ghost use Rattle.std.specs.Vec.Iter.{into_iter_items};
+
+    type Item = T;
+
+    type IntoIter = std::vec::IntoIter<T>;
+
+    ghost into_iter_gives = { λ l i. into_iter_items i ≡ l.items };
+
+    fn into_iter(self) -> std::vec::IntoIter<T> {
+        let ErrorList {
+            description: _,
+            errors,
+        } = self;
+        errors.into_iter()
+    }
+}
+
 impl ErrorList<ChildError> {
     /// Describes the errors, and keeps the descriptions in `room`, which must be empty and large
     /// enough.

@@ -42,6 +42,16 @@ pub enum ChildError {
     SetupScriptOutput(SerializableError),
 }
 
+impl From<ChildFdError> for ChildError {
+    ghost use Rattle.run_events_attempts.specs.declared.child.errors.ChildError.TheVariants.{Fd};
+
+    ghost from_gives = { λ seen error. error ≡ Fd seen };
+
+    fn from(error: ChildFdError) -> ChildError {
+        ChildError::Fd(error)
+    }
+}
+
 /// Why a child process was not started. It is displayed without its cause.
 #[derive(Debug, PartialEq, Eq, Drop)]
 pub enum ChildStartErrorDescription {

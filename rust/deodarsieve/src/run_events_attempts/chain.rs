@@ -68,7 +68,9 @@ impl SerializableError {
     /// Returns an iterator over the causes, the nearest first. Each has its own causes.
     #[must_use]
     pub fn sources(&self) -> SerializableErrorSources<'_> {
-        SerializableErrorSources { next: self.cause() }
+        SerializableErrorSources {
+            current: self.cause(),
+        }
     }
 }
 
@@ -101,17 +103,17 @@ impl PartialEq for SerializableError {
 impl Eq for SerializableError {}
 
 /// An iterator over the causes of an error, the nearest first.
-#[derive(Clone)]
+#[derive(Clone, Debug)]
 pub struct SerializableErrorSources<'a> {
-    next: Option<&'a SerializableError>,
+    current: Option<&'a SerializableError>,
 }
 
 impl<'a> Iterator for SerializableErrorSources<'a> {
     type Item = &'a SerializableError;
 
     fn next(&mut self) -> Option<&'a SerializableError> {
-        let error = self.next?;
-        self.next = error.cause();
+        let error = self.current?;
+        self.current = error.cause();
         Some(error)
     }
 }

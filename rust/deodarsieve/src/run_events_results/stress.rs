@@ -5,10 +5,8 @@ use core::num::NonZero;
 use core::time::Duration;
 
 /// A duration that is not zero.
-#[derive(Clone, Copy, PartialEq, Eq)]
-pub struct NonZeroDuration {
-    duration: Duration,
-}
+#[derive(Clone, Copy, Debug, PartialEq, Eq)]
+pub struct NonZeroDuration(Duration);
 
 impl NonZeroDuration {
     /// Returns the duration as one that is not zero, or `None` if it is zero.
@@ -17,14 +15,14 @@ impl NonZeroDuration {
         if duration.is_zero() {
             None
         } else {
-            Some(NonZeroDuration { duration })
+            Some(NonZeroDuration(duration))
         }
     }
 
     /// Returns the duration.
     #[must_use]
     pub fn get(self) -> Duration {
-        self.duration
+        self.0
     }
 }
 

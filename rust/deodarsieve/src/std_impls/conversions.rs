@@ -2,18 +2,12 @@
 
 use super::signal_names;
 use crate::run_events_attempts::child::{
-    ChildError, ChildExecutionOutput, ChildExecutionOutputDescription, ChildFdError, LiveSpec,
+    ChildExecutionOutput, ChildExecutionOutputDescription, LiveSpec,
 };
 use crate::run_events_results::results::{
     AbortDescription, AbortStatus, ExecutionResult, ExecutionResultDescription, FailureDescription,
     FailureStatus,
 };
-
-impl From<ChildFdError> for ChildError {
-    fn from(error: ChildFdError) -> Self {
-        ChildError::Fd(error)
-    }
-}
 
 /// The description has the name of the signal if its number means the same on Linux, macOS, the BSDs
 /// and illumos: 1 to 6, 8, 9, 11, and 13 to 15. [`AbortDescription::from_status`] takes any name.

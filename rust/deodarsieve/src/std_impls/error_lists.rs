@@ -36,24 +36,6 @@ impl<T: Error> ErrorList<T> {
     }
 }
 
-impl<'a, T> IntoIterator for &'a ErrorList<T> {
-    type Item = &'a T;
-    type IntoIter = core::slice::Iter<'a, T>;
-
-    fn into_iter(self) -> Self::IntoIter {
-        self.iter()
-    }
-}
-
-impl<T> IntoIterator for ErrorList<T> {
-    type Item = T;
-    type IntoIter = alloc::vec::IntoIter<T>;
-
-    fn into_iter(self) -> Self::IntoIter {
-        self.errors.into_iter()
-    }
-}
-
 /// One error is displayed as itself. Several are displayed with their causes, under a line with
 /// their number and the description of the operation:
 ///

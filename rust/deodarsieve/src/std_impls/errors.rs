@@ -1,5 +1,5 @@
-//! `Error` for the error types of the layer. The text of an error names the failed operation, and
-//! its source is the cause.
+//! `Error` for the error types of the layer, and `Display` for those of a runner. The text of an error
+//! names the failed operation, and its source is the cause.
 
 use crate::output_slice::TestOutputErrorSlice;
 use crate::run_events::unit_error::{UnitAbortDescription, UnitError};
@@ -11,6 +11,28 @@ use crate::run_events_attempts::child::{
 };
 use crate::run_events_stats::stats::CounterFull;
 use core::error::Error;
+use core::fmt;
+
+/// Writes the text of the description.
+impl fmt::Display for ChildStartError {
+    fn fmt(&self, f: &mut fmt::Formatter<'_>) -> fmt::Result {
+        ChildStartErrorDescription::from(self.clone()).fmt(f)
+    }
+}
+
+/// Writes the text of the description.
+impl fmt::Display for ChildError {
+    fn fmt(&self, f: &mut fmt::Formatter<'_>) -> fmt::Result {
+        ChildErrorDescription::from(self.clone()).fmt(f)
+    }
+}
+
+/// Writes the text of the description.
+impl fmt::Display for ChildFdError {
+    fn fmt(&self, f: &mut fmt::Formatter<'_>) -> fmt::Result {
+        ChildError::from(self.clone()).fmt(f)
+    }
+}
 
 impl Error for ChildStartErrorDescription {
     fn source(&self) -> Option<&(dyn Error + 'static)> {

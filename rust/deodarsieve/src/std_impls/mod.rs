@@ -6,13 +6,11 @@ mod captured;
 mod chrono;
 mod conversions;
 mod error_lists;
-mod error_texts;
 mod errors;
 #[cfg(feature = "std")]
 mod exit_status;
 #[cfg(feature = "std")]
 mod io_errors;
-mod non_zero_duration;
 mod outcomes;
 mod records;
 #[cfg(feature = "serde")]

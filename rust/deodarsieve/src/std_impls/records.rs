@@ -56,15 +56,6 @@ by_fields! { ExecutionStatuses {
     statuses, flaky_result,
 } }
 
-impl<'a, S: OutputSpec> IntoIterator for &'a ExecutionStatuses<S> {
-    type Item = &'a ExecuteStatus<S>;
-    type IntoIter = core::slice::Iter<'a, ExecuteStatus<S>>;
-
-    fn into_iter(self) -> Self::IntoIter {
-        self.iter()
-    }
-}
-
 impl<S: OutputSpec> Clone for ChildExecutionOutputDescription<S>
 where
     S::ChildOutputDesc: Clone,

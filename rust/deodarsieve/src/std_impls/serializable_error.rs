@@ -1,7 +1,7 @@
 //! Hand-written methods and traits of [`SerializableError`]. Its causes are a linked list, so
 //! everything that visits them is a loop: recursion would overflow the stack on a long chain.
 
-use crate::run_events_attempts::chain::{SerializableError, SerializableErrorSources};
+use crate::run_events_attempts::chain::SerializableError;
 use alloc::string::{String, ToString};
 use core::error::Error;
 use core::fmt;
@@ -86,14 +86,6 @@ fn write_indented(f: &mut fmt::Formatter<'_>, depth: usize, text: &str) -> fmt::
         f.write_str("        ")?;
     }
     f.write_str(text)
-}
-
-impl fmt::Debug for SerializableErrorSources<'_> {
-    fn fmt(&self, f: &mut fmt::Formatter<'_>) -> fmt::Result {
-        f.debug_struct("SerializableErrorSources")
-            .field("current", &self.clone().next())
-            .finish()
-    }
 }
 
 impl Error for SerializableError {

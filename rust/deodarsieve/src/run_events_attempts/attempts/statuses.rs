@@ -7,6 +7,7 @@ use crate::run_events_attempts::child::OutputSpec;
 use crate::run_events_results::config::FlakyResult;
 use crate::run_events_results::view::TestView;
 use alloc::vec::Vec;
+use core::fmt;
 
 /// All attempts of a finished test, in order, and how the test counts if it is flaky. There is always
 /// at least one attempt.
@@ -38,6 +39,12 @@ pub struct ExecutionStatuses<S: OutputSpec> {
 /// The error if a list of attempts is empty. A finished test has at least one attempt.
 #[derive(Clone, Copy, Debug, PartialEq, Eq)]
 pub struct EmptyStatuses;
+
+impl fmt::Display for EmptyStatuses {
+    fn fmt(&self, f: &mut fmt::Formatter<'_>) -> fmt::Result {
+        f.write_str("a finished test has at least one attempt, but the list of attempts is empty")
+    }
+}
 
 impl<S: OutputSpec> ExecutionStatuses<S> {
     /// Returns a test with these attempts, in order.
@@ -120,6 +127,17 @@ impl<S: OutputSpec> ExecutionStatuses<S> {
 
 /// An iterator over the attempts of a test.
 pub type ExecutionStatusesIter<'a, S> = core::slice::Iter<'a, ExecuteStatus<S>>;
+
+/// Iterates over the attempts, in order.
+impl<'a, S: OutputSpec> IntoIterator for &'a ExecutionStatuses<S> {
+    type Item = &'a ExecuteStatus<S>;
+
+    type IntoIter = ExecutionStatusesIter<'a, S>;
+
+    fn into_iter(self) -> ExecutionStatusesIter<'a, S> {
+        self.iter()
+    }
+}
 
 /// Iterates over the attempts, in order.
 impl<S: OutputSpec> IntoIterator for ExecutionStatuses<S> {

@@ -4,6 +4,7 @@
 use crate::run_events_attempts::chain::SerializableError;
 use alloc::string::String;
 use alloc::vec::Vec;
+use core::fmt;
 use serde_json::{Map, Value};
 
 /// Why a JSON value is not an error with its causes.
@@ -27,6 +28,20 @@ pub enum FromValueError {
         /// The position of the first such cause, counted from 0.
         index: usize,
     },
+}
+
+impl fmt::Display for FromValueError {
+    fn fmt(&self, f: &mut fmt::Formatter<'_>) -> fmt::Result {
+        match self {
+            FromValueError::NotAnObject => f.write_str("the error is not an object"),
+            FromValueError::MessageMissing => f.write_str("the error has no member `message`"),
+            FromValueError::MessageNotText => f.write_str("the member `message` is not a string"),
+            FromValueError::CausesNotAList => f.write_str("the member `causes` is not a list"),
+            FromValueError::CauseNotText { index } => {
+                write!(f, "the item {index} of `causes` is not a string")
+            }
+        }
+    }
 }
 
 impl SerializableError {

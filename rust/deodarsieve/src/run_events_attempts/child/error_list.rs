@@ -42,3 +42,27 @@ impl<T> ErrorList<T> {
         self.errors.iter()
     }
 }
+
+impl<'a, T> IntoIterator for &'a ErrorList<T> {
+    type Item = &'a T;
+
+    type IntoIter = Iter<'a, T>;
+
+    fn into_iter(self) -> Iter<'a, T> {
+        self.iter()
+    }
+}
+
+impl<T> IntoIterator for ErrorList<T> {
+    type Item = T;
+
+    type IntoIter = alloc::vec::IntoIter<T>;
+
+    fn into_iter(self) -> alloc::vec::IntoIter<T> {
+        let ErrorList {
+            description: _,
+            errors,
+        } = self;
+        errors.into_iter()
+    }
+}

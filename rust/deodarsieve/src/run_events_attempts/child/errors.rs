@@ -40,6 +40,12 @@ pub enum ChildError {
     SetupScriptOutput(SerializableError),
 }
 
+impl From<ChildFdError> for ChildError {
+    fn from(error: ChildFdError) -> ChildError {
+        ChildError::Fd(error)
+    }
+}
+
 /// Why a child process was not started. It is displayed without its cause.
 #[derive(Clone, Debug, PartialEq, Eq)]
 #[cfg_attr(
