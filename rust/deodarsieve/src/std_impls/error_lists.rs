@@ -2,9 +2,11 @@
 
 use crate::run_events_attempts::attempts::ErrorSummary;
 use crate::run_events_attempts::child::ErrorList;
+use alloc::format;
 use alloc::string::{String, ToString};
 use core::error::Error;
 use core::fmt::{self, Write};
+use core::iter::successors;
 
 impl<T> ErrorList<T> {
     /// Returns a list with the same description and the results of `convert` for the errors, in
@@ -66,10 +68,9 @@ impl<T: Error> fmt::Display for ErrorList<T> {
         }
         writeln!(f, "{} errors occurred {}:", self.len(), self.description())?;
         for error in self {
-            let mut item = Indented::new(f, "  ");
-            write!(item, "* ")?;
-            write_with_causes(&mut item, error)?;
-            writeln!(item)?;
+            f.write_str("* ")?;
+            write_with_causes(f, error, "  ")?;
+            f.write_str("\n")?;
         }
         Ok(())
     }
@@ -89,52 +90,32 @@ impl<T: Error> Error for ErrorList<T> {
 /// Returns the text of an error, with each of its causes on a line of its own.
 fn text_with_causes(error: &dyn Error) -> String {
     let mut text = String::new();
-    write_with_causes(&mut text, error).expect("a `Display` fails only if the writer does");
+    write_with_causes(&mut text, error, "").expect("a string takes any text");
     text
 }
 
-/// Writes an error, and each of its causes on a line of its own.
-fn write_with_causes(out: &mut dyn Write, error: &dyn Error) -> fmt::Result {
-    write!(out, "{error}")?;
-    let mut source = error.source();
-    if source.is_some() {
-        write!(out, "\n  caused by:")?;
+/// Writes an error, and each of its causes on a line of its own, with an indent before each line except
+/// the first one.
+fn write_with_causes(out: &mut dyn Write, error: &dyn Error, indent: &str) -> fmt::Result {
+    write_indented(out, &error.to_string(), indent)?;
+    if error.source().is_some() {
+        write!(out, "\n{indent}  caused by:")?;
     }
-    while let Some(cause) = source {
-        writeln!(out)?;
-        write!(Indented::new(out, "    "), "  - {cause}")?;
-        source = cause.source();
+    let indent_of_cause = format!("{indent}    ");
+    for cause in successors(error.source(), |&cause| cause.source()) {
+        write!(out, "\n{indent}  - ")?;
+        write_indented(out, &cause.to_string(), &indent_of_cause)?;
     }
     Ok(())
 }
 
 /// Writes a text with an indent before each line except the first one and empty ones.
-struct Indented<'a> {
-    out: &'a mut dyn Write,
-    indent: &'static str,
-    begins_line: bool,
-}
-
-impl<'a> Indented<'a> {
-    /// Returns a writer that is on its first line.
-    fn new(out: &'a mut dyn Write, indent: &'static str) -> Self {
-        Indented {
-            out,
-            indent,
-            begins_line: false,
+fn write_indented(out: &mut dyn Write, text: &str, indent: &str) -> fmt::Result {
+    for (number, line) in text.split_inclusive('\n').enumerate() {
+        if number > 0 && line != "\n" {
+            out.write_str(indent)?;
         }
+        out.write_str(line)?;
     }
-}
-
-impl Write for Indented<'_> {
-    fn write_str(&mut self, text: &str) -> fmt::Result {
-        for line in text.split_inclusive('\n') {
-            if self.begins_line && line != "\n" {
-                self.out.write_str(self.indent)?;
-            }
-            self.out.write_str(line)?;
-            self.begins_line = line.ends_with('\n');
-        }
-        Ok(())
-    }
+    Ok(())
 }

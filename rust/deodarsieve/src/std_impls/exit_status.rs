@@ -43,14 +43,13 @@ fn abort_of(status: ExitStatus) -> Option<AbortStatus> {
 
 #[cfg(windows)]
 fn abort_of(status: ExitStatus) -> Option<AbortStatus> {
-    abort_of_code(status.code())
+    abort_of_code(status.code()?)
 }
 
 /// Returns the abort that a negative exit code of Windows means.
 #[cfg(windows)]
-fn abort_of_code(code: Option<i32>) -> Option<AbortStatus> {
-    let code = code.filter(|&code| code < 0)?;
-    Some(AbortStatus::WindowsNtStatus(code))
+fn abort_of_code(code: i32) -> Option<AbortStatus> {
+    (code < 0).then_some(AbortStatus::WindowsNtStatus(code))
 }
 
 #[cfg(not(any(unix, windows)))]
@@ -66,10 +65,8 @@ mod tests {
     fn only_a_negative_code_is_an_abort() {
         for code in [i32::MIN, -1] {
             let abort = AbortStatus::WindowsNtStatus(code);
-            assert_eq!(abort_of_code(Some(code)), Some(abort));
+            assert_eq!(abort_of_code(code), Some(abort));
         }
-        for code in [Some(0), Some(3), Some(i32::MAX), None] {
-            assert_eq!(abort_of_code(code), None);
-        }
+        assert_eq!([0, 3, i32::MAX].map(abort_of_code), [None; 3]);
     }
 }

@@ -2,144 +2,96 @@
 //! a trait if its type of output description has it. The type parameter itself need not have it.
 
 use crate::run_events_attempts::attempts::{
-    ExecuteStatus, ExecutionDescription, ExecutionStatuses, SetupScriptExecuteStatus,
+    ExecuteStatus,
+    ExecutionDescription::{self, Failure, Flaky, Success},
+    ExecutionStatuses, SetupScriptExecuteStatus,
 };
-use crate::run_events_attempts::child::{ChildExecutionOutputDescription, OutputSpec};
+use crate::run_events_attempts::child::{
+    ChildExecutionOutputDescription::{self, Output, StartError},
+    OutputSpec,
+};
 use core::fmt;
 
-/// Implements the traits for a record with public fields.
-macro_rules! by_fields {
-    ($name:ident { $($field:ident),* $(,)? }) => {
-        impl<S: OutputSpec> Clone for $name<S>
-        where
-            S::ChildOutputDesc: Clone,
-        {
-            fn clone(&self) -> Self {
-                $name { $($field: self.$field.clone()),* }
-            }
-        }
-
-        impl<S: OutputSpec> fmt::Debug for $name<S>
+/// Implements `Debug` as a derived one, for an enum with these variants and fields. A tuple variant is
+/// written last, with any name for its field. A struct is written as a variant with its own name. The
+/// compiler refuses a list that lacks a variant or a field.
+macro_rules! debug_by_fields {
+    ($type:ty: $($variant:ident { $($field:ident),* })|+ $(; $tuple:ident($inner:ident))?) => {
+        impl<S: OutputSpec> fmt::Debug for $type
         where
             S::ChildOutputDesc: fmt::Debug,
         {
             fn fmt(&self, f: &mut fmt::Formatter<'_>) -> fmt::Result {
-                f.debug_struct(stringify!($name))
-                    $(.field(stringify!($field), &self.$field))*
-                    .finish()
+                match self {
+                    $($variant { $($field),* } => f
+                        .debug_struct(stringify!($variant))
+                        $(.field(stringify!($field), $field))*
+                        .finish(),)+
+                    $($tuple($inner) => f.debug_tuple(stringify!($tuple)).field($inner).finish(),)?
+                }
+            }
+        }
+    };
+}
+
+/// Implements `Debug`, `Clone` and equality as derived ones, for a type that is written in the same way.
+macro_rules! traits_by_fields {
+    ($type:ty: $($variant:ident { $($field:ident),* })|+ $(; $tuple:ident($inner:ident))?) => {
+        debug_by_fields! { $type: $($variant { $($field),* })|+ $(; $tuple($inner))? }
+
+        impl<S: OutputSpec> Clone for $type
+        where
+            S::ChildOutputDesc: Clone,
+        {
+            fn clone(&self) -> Self {
+                match self {
+                    $($variant { $($field),* } => $variant { $($field: $field.clone()),* },)+
+                    $($tuple($inner) => $tuple($inner.clone()),)?
+                }
             }
         }
 
-        impl<S: OutputSpec> PartialEq for $name<S>
+        impl<S: OutputSpec> PartialEq for $type
         where
             S::ChildOutputDesc: PartialEq,
         {
             fn eq(&self, other: &Self) -> bool {
-                true $(&& self.$field == other.$field)*
+                match self {
+                    $($variant { $($field),* } => {
+                        let fields = ($($field),*);
+                        matches!(other, $variant { $($field),* } if fields == ($($field),*))
+                    })+
+                    $($tuple(field) => matches!(other, $tuple($inner) if field == $inner),)?
+                }
             }
         }
 
-        impl<S: OutputSpec> Eq for $name<S> where S::ChildOutputDesc: Eq {}
+        impl<S: OutputSpec> Eq for $type where S::ChildOutputDesc: Eq {}
     };
 }
 
-by_fields! { ExecuteStatus {
-    retry_data, output, result, start_time, time_taken, is_slow, delay_before_start,
-    error_summary, output_error_slice,
-} }
-
-by_fields! { SetupScriptExecuteStatus {
-    output, result, start_time, time_taken, is_slow, env_map, error_summary,
-} }
-
-by_fields! { ExecutionStatuses {
-    statuses, flaky_result,
-} }
-
-impl<S: OutputSpec> Clone for ChildExecutionOutputDescription<S>
-where
-    S::ChildOutputDesc: Clone,
-{
-    fn clone(&self) -> Self {
-        match self {
-            Self::Output {
-                result,
-                output,
-                errors,
-            } => Self::Output {
-                result: result.clone(),
-                output: output.clone(),
-                errors: errors.clone(),
-            },
-            Self::StartError(error) => Self::StartError(error.clone()),
-        }
+traits_by_fields! {
+    ExecuteStatus<S>: ExecuteStatus {
+        retry_data, output, result, start_time, time_taken, is_slow, delay_before_start,
+        error_summary, output_error_slice
     }
 }
 
-impl<S: OutputSpec> PartialEq for ChildExecutionOutputDescription<S>
-where
-    S::ChildOutputDesc: PartialEq,
-{
-    fn eq(&self, other: &Self) -> bool {
-        match (self, other) {
-            (
-                Self::Output {
-                    result,
-                    output,
-                    errors,
-                },
-                Self::Output {
-                    result: other_result,
-                    output: other_output,
-                    errors: other_errors,
-                },
-            ) => (result, output, errors) == (other_result, other_output, other_errors),
-            (Self::StartError(error), Self::StartError(other)) => error == other,
-            (Self::Output { .. }, Self::StartError(_))
-            | (Self::StartError(_), Self::Output { .. }) => false,
-        }
+traits_by_fields! {
+    SetupScriptExecuteStatus<S>: SetupScriptExecuteStatus {
+        output, result, start_time, time_taken, is_slow, env_map, error_summary
     }
 }
 
-impl<S: OutputSpec> Eq for ChildExecutionOutputDescription<S> where S::ChildOutputDesc: Eq {}
+traits_by_fields! { ExecutionStatuses<S>: ExecutionStatuses { statuses, flaky_result } }
 
-/// Writes an enum by the fields of its variants, as a derived `Debug` does. A variant without names has
-/// an arm of its own.
-macro_rules! debug_by_fields {
-    ($value:ident, $f:ident, $($name:ident { $($field:ident),* })* $(; $pattern:pat => $written:expr)?) => {
-        match $value {
-            $(Self::$name { $($field),* } => $f
-                .debug_struct(stringify!($name))
-                $(.field(stringify!($field), $field))*
-                .finish(),)*
-            $($pattern => $written,)?
-        }
-    };
+traits_by_fields! {
+    ChildExecutionOutputDescription<S>: Output { result, output, errors }; StartError(error)
 }
 
-impl<S: OutputSpec> fmt::Debug for ChildExecutionOutputDescription<S>
-where
-    S::ChildOutputDesc: fmt::Debug,
-{
-    fn fmt(&self, f: &mut fmt::Formatter<'_>) -> fmt::Result {
-        debug_by_fields! {
-            self, f,
-            Output { result, output, errors };
-            Self::StartError(error) => f.debug_tuple("StartError").field(error).finish()
-        }
-    }
-}
-
-impl<S: OutputSpec> fmt::Debug for ExecutionDescription<'_, S>
-where
-    S::ChildOutputDesc: fmt::Debug,
-{
-    fn fmt(&self, f: &mut fmt::Formatter<'_>) -> fmt::Result {
-        debug_by_fields! {
-            self, f,
-            Success { single_status }
-            Flaky { last_status, prior_statuses, result }
-            Failure { first_status, last_status, retries }
-        }
-    }
+debug_by_fields! {
+    ExecutionDescription<'_, S>:
+    Success { single_status }
+    | Flaky { last_status, prior_statuses, result }
+    | Failure { first_status, last_status, retries }
 }

@@ -26,11 +26,7 @@ impl SerializableError {
 
 impl Clone for SerializableError {
     fn clone(&self) -> Self {
-        let causes = self
-            .sources()
-            .map(|cause| String::from(cause.message()))
-            .collect();
-        SerializableError::from_message_and_causes(String::from(self.message()), causes)
+        SerializableError::new(self)
     }
 }
 
@@ -63,36 +59,26 @@ fn write_on_one_line(error: &SerializableError, f: &mut fmt::Formatter<'_>) -> f
 fn write_on_lines(error: &SerializableError, f: &mut fmt::Formatter<'_>) -> fmt::Result {
     let message = error.message();
     write!(f, "SerializableError {{\n    message: {message:?},\n")?;
-    let mut depth = 0;
+    let mut indent = String::new();
     for cause in error.sources() {
-        write_indented(f, depth, "    source: Some(\n")?;
-        depth += 1;
-        write_indented(f, depth, "SerializableError {\n")?;
-        write_indented(f, depth, "")?;
-        writeln!(f, "    message: {:?},", cause.message())?;
+        let message = cause.message();
+        writeln!(f, "{indent}    source: Some(")?;
+        indent.push_str("        ");
+        writeln!(
+            f,
+            "{indent}SerializableError {{\n{indent}    message: {message:?},"
+        )?;
     }
-    write_indented(f, depth, "    source: None,\n")?;
-    while depth > 0 {
-        write_indented(f, depth, "},\n")?;
-        depth -= 1;
-        write_indented(f, depth, "    ),\n")?;
+    writeln!(f, "{indent}    source: None,")?;
+    while let Some(outer) = indent.strip_suffix("        ") {
+        writeln!(f, "{indent}}},\n{outer}    ),")?;
+        indent.truncate(outer.len());
     }
     f.write_str("}")
 }
 
-/// Writes a text after the indent of the error that is `depth` causes inside the outermost one.
-fn write_indented(f: &mut fmt::Formatter<'_>, depth: usize, text: &str) -> fmt::Result {
-    for _ in 0..depth {
-        f.write_str("        ")?;
-    }
-    f.write_str(text)
-}
-
 impl Error for SerializableError {
     fn source(&self) -> Option<&(dyn Error + 'static)> {
-        match self.cause() {
-            Some(cause) => Some(cause),
-            None => None,
-        }
+        self.cause().map(|cause| cause as &dyn Error)
     }
 }

@@ -1,7 +1,6 @@
 //! Moments from the clock of the standard library.
 
 use crate::moment::Moment;
-use core::time::Duration;
 use std::time::SystemTime;
 
 /// The instant at offset 0.
@@ -10,18 +9,14 @@ use std::time::SystemTime;
 /// that it can.
 impl From<SystemTime> for Moment {
     fn from(time: SystemTime) -> Self {
+        // A duration has fewer than 2^94 nanoseconds.
         let nanoseconds = match time.duration_since(SystemTime::UNIX_EPOCH) {
-            Ok(after) => signed_nanoseconds(after),
-            Err(error) => -signed_nanoseconds(error.duration()),
+            Ok(after) => after.as_nanos() as i128,
+            Err(error) => -(error.duration().as_nanos() as i128),
         };
         let least = Moment::MIN.unix_nanoseconds();
         let greatest = Moment::MAX.unix_nanoseconds();
         Moment::from_unix_nanoseconds(nanoseconds.clamp(least, greatest), 0)
             .expect("the instant is between the least and the greatest")
     }
-}
-
-/// Returns the nanoseconds of a duration, of which there are fewer than 2^94.
-fn signed_nanoseconds(duration: Duration) -> i128 {
-    i128::from(duration.as_secs()) * 1_000_000_000 + i128::from(duration.subsec_nanos())
 }
