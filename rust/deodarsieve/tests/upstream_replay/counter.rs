@@ -42,12 +42,14 @@ pub fn unit_in(text: &str) -> Option<Unit> {
 /// Returns the counter with this name.
 fn counter<'a>(stats: &'a mut RunStats, name: &str) -> Option<&'a mut usize> {
     macro_rules! named {
-        ($($counter:ident),* $(,)?) => {
+        ($($counter:ident),* $(,)?) => {{
+            // There is no `..`, so the compiler refuses a list that lacks a counter.
+            let RunStats { $($counter,)* cancel_reason: _ } = stats;
             match name {
-                $(stringify!($counter) => Some(&mut stats.$counter),)*
+                $(stringify!($counter) => Some($counter),)*
                 _ => None,
             }
-        };
+        }};
     }
     named!(
         initial_run_count,

@@ -5,34 +5,42 @@
 use crate::unit::test_in;
 use deodarsieve::{FinalStatusLevel, StatusLevel};
 
+/// All status levels, the least first.
+pub const STATUS_LEVELS: [StatusLevel; 8] = [
+    StatusLevel::None,
+    StatusLevel::Fail,
+    StatusLevel::Retry,
+    StatusLevel::Slow,
+    StatusLevel::Leak,
+    StatusLevel::Pass,
+    StatusLevel::Skip,
+    StatusLevel::All,
+];
+
+/// All final levels, the least first.
+pub const FINAL_LEVELS: [FinalStatusLevel; 8] = [
+    FinalStatusLevel::None,
+    FinalStatusLevel::Fail,
+    FinalStatusLevel::Flaky,
+    FinalStatusLevel::Slow,
+    FinalStatusLevel::Skip,
+    FinalStatusLevel::Leak,
+    FinalStatusLevel::Pass,
+    FinalStatusLevel::All,
+];
+
 /// Returns the level that a word names.
 pub fn named_level(word: &str) -> Option<StatusLevel> {
-    match word {
-        "None" => Some(StatusLevel::None),
-        "Fail" => Some(StatusLevel::Fail),
-        "Retry" => Some(StatusLevel::Retry),
-        "Slow" => Some(StatusLevel::Slow),
-        "Leak" => Some(StatusLevel::Leak),
-        "Pass" => Some(StatusLevel::Pass),
-        "Skip" => Some(StatusLevel::Skip),
-        "All" => Some(StatusLevel::All),
-        _ => None,
-    }
+    STATUS_LEVELS
+        .into_iter()
+        .find(|level| format!("{level:?}") == word)
 }
 
 /// Returns the final level that a word names.
 pub fn named_final_level(word: &str) -> Option<FinalStatusLevel> {
-    match word {
-        "None" => Some(FinalStatusLevel::None),
-        "Fail" => Some(FinalStatusLevel::Fail),
-        "Flaky" => Some(FinalStatusLevel::Flaky),
-        "Slow" => Some(FinalStatusLevel::Slow),
-        "Skip" => Some(FinalStatusLevel::Skip),
-        "Leak" => Some(FinalStatusLevel::Leak),
-        "Pass" => Some(FinalStatusLevel::Pass),
-        "All" => Some(FinalStatusLevel::All),
-        _ => None,
-    }
+    FINAL_LEVELS
+        .into_iter()
+        .find(|level| format!("{level:?}") == word)
 }
 
 /// Returns true if the crates have the result of a case, or `None` if the text is not a case.

@@ -8,34 +8,12 @@
 //! levels are in order, the least first. Every pair of a letter in LINES and a letter in OUTPUTS is
 //! compared.
 
+use crate::level::{FINAL_LEVELS, STATUS_LEVELS};
 use crate::words::named_reason;
 use deodarsieve::{
     AbortDescription, CancelReason, ExecutionResultDescription, FailureDescription,
-    FinalStatusLevel, OutputOnTestFinished, OutputStoreFinal, StatusLevel, StatusLevels,
-    TestOutputDisplay,
+    OutputOnTestFinished, OutputStoreFinal, StatusLevels, TestOutputDisplay,
 };
-
-const STATUS_LEVELS: [StatusLevel; 8] = [
-    StatusLevel::None,
-    StatusLevel::Fail,
-    StatusLevel::Retry,
-    StatusLevel::Slow,
-    StatusLevel::Leak,
-    StatusLevel::Pass,
-    StatusLevel::Skip,
-    StatusLevel::All,
-];
-
-const FINAL_LEVELS: [FinalStatusLevel; 8] = [
-    FinalStatusLevel::None,
-    FinalStatusLevel::Fail,
-    FinalStatusLevel::Flaky,
-    FinalStatusLevel::Slow,
-    FinalStatusLevel::Skip,
-    FinalStatusLevel::Leak,
-    FinalStatusLevel::Pass,
-    FinalStatusLevel::All,
-];
 
 /// Returns the display that a word names.
 pub fn named_display(word: &str) -> Option<TestOutputDisplay> {
