@@ -1,5 +1,5 @@
-//! The codes and the structs of the C library. The tests use its table of reasons.
-#![allow(dead_code, reason = "the tests use the table of reasons alone")]
+//! The codes and the structs of the C library. The tests use its tables of reasons, levels and displays.
+#![allow(dead_code, reason = "the tests use some of the tables alone")]
 
 #[path = "../../c/src/c_values/codes.rs"]
 pub mod codes;

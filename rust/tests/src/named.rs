@@ -1,7 +1,8 @@
-//! The counters of a run and the reasons to cancel one, by their names in the source.
+//! The counters of a run and the reasons to cancel one, by their names in the source, and all levels and
+//! displays.
 
 use crate::c_values::codes;
-use deodarsieve::{CancelReason, RunStats};
+use deodarsieve::{CancelReason, FinalStatusLevel, RunStats, TestOutputDisplay};
 use serde::Deserialize;
 use serde::de::value::{Error, MapDeserializer};
 use std::sync::LazyLock;
@@ -30,6 +31,18 @@ pub fn reasons() -> Vec<Option<CancelReason>> {
     let mut reasons = codes::REASONS.to_vec();
     reasons.sort();
     reasons
+}
+
+/// Returns all final levels, the least first.
+pub fn final_levels() -> Vec<FinalStatusLevel> {
+    let mut levels: Vec<_> = (0..).map_while(codes::final_level).collect();
+    levels.sort();
+    levels
+}
+
+/// Returns all settings for when output is displayed.
+pub fn displays() -> Vec<TestOutputDisplay> {
+    (0..).map_while(codes::display).collect()
 }
 
 /// Returns the word for a reason: `test-failure` for `TestFailure`, and `-` for no reason.

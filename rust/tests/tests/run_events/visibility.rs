@@ -5,26 +5,7 @@ use deodarsieve::{
     FinalStatusLevel, OutputOnTestFinished, OutputStoreFinal, StatusLevel, StatusLevels,
     TestOutputDisplay,
 };
-use deodarsieve_tests::named::reasons;
-
-const DISPLAYS: [TestOutputDisplay; 4] = [
-    TestOutputDisplay::Immediate,
-    TestOutputDisplay::ImmediateFinal,
-    TestOutputDisplay::Final,
-    TestOutputDisplay::Never,
-];
-
-/// All final levels, the least first.
-const FINAL_LEVELS: [FinalStatusLevel; 8] = [
-    FinalStatusLevel::None,
-    FinalStatusLevel::Fail,
-    FinalStatusLevel::Flaky,
-    FinalStatusLevel::Slow,
-    FinalStatusLevel::Skip,
-    FinalStatusLevel::Leak,
-    FinalStatusLevel::Pass,
-    FinalStatusLevel::All,
-];
+use deodarsieve_tests::named::{displays, final_levels, reasons};
 
 /// Returns a failure of this kind, which left no handle open.
 fn failed(failure: FailureDescription) -> ExecutionResultDescription {
@@ -90,7 +71,7 @@ fn assert_that_less_is_shown(
     is_terminated: bool,
 ) {
     let reasons = reasons();
-    for level in FINAL_LEVELS {
+    for level in final_levels() {
         let is_asked_for = display != TestOutputDisplay::Never || own >= level;
         for (place, lesser) in reasons.iter().enumerate() {
             for greater in &reasons[place..] {
@@ -115,8 +96,8 @@ fn assert_that_less_is_shown(
 #[test]
 fn less_is_shown_under_a_greater_reason() {
     let exited = failed(FailureDescription::ExitCode { code: 1 });
-    for own in FINAL_LEVELS {
-        for display in DISPLAYS {
+    for own in final_levels() {
+        for display in displays() {
             assert_that_less_is_shown(own, display, &signalled(15), true);
             assert_that_less_is_shown(own, display, &signalled(9), false);
             assert_that_less_is_shown(own, display, &exited, false);

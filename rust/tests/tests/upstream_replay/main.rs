@@ -3,15 +3,21 @@
 //! `data/upstream_replay.txt` has a case in each line: the name of its kind, a space, and the case. A
 //! line that begins with `#` describes the cases after it. A line that begins with `changed` has a
 //! case with another result than the stored one, and a line that begins with `malformed` has no case.
-//! These two kinds show that the replay notices a wrong line. The crate `deodarsieve` replays the
-//! lines of all other kinds in its own tests. `docs/PLAIN-RUST.md` has the number of lines, which
-//! `tools/documents` compares.
+//! These two kinds show that the replay notices a wrong line. `tools/pack-replay` packs lines for the
+//! crate `deodarsieve`, which replays them in its own tests. All other lines are replayed here.
+//! `docs/PLAIN-RUST.md` has the number of lines, which `tools/documents` compares.
 
 mod engine;
 
 use deodarsieve_cli::run_digest_engine::command::Command;
+use flate2::read::GzDecoder;
+use std::collections::HashSet;
+use std::io::Read;
 
 const LINES: &str = include_str!("../../data/upstream_replay.txt");
+
+/// The lines that the crate `deodarsieve` replays.
+const PACKED: &[u8] = include_bytes!("../../../deodarsieve/tests/data/upstream_replay.txt.gz");
 
 /// Returns true if the engine has the result of a case, or `None` if the text is not a case of a
 /// program.
@@ -32,19 +38,15 @@ fn agrees(line: &str) -> Option<bool> {
     }
 }
 
-/// Returns true if a line, as it is or changed, has a case of a program.
-fn is_of_a_program(line: &str) -> bool {
-    let mut words = line
-        .split(' ')
-        .skip_while(|word| matches!(*word, "changed" | "malformed"));
-    matches!(words.next(), Some("count" | "digest-extract"))
-}
-
 #[test]
-fn all_lines_of_programs_agree() {
+fn all_lines_that_are_not_packed_agree() {
+    let mut packed = String::new();
+    let read = GzDecoder::new(PACKED).read_to_string(&mut packed);
+    assert!(read.is_ok(), "the file is whole");
+    let packed: HashSet<&str> = packed.lines().collect();
     let lines = (1..)
         .zip(LINES.lines())
-        .filter(|(_, line)| is_of_a_program(line));
+        .filter(|(_, line)| !line.starts_with('#') && !packed.contains(line));
     let results: Vec<_> = lines.map(|(number, line)| (number, agrees(line))).collect();
     let wrong: Vec<_> = results
         .iter()
