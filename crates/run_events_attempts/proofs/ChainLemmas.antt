@@ -1,10 +1,12 @@
 -- Error chains as JSON: the value that is written for a chain, and the chain that is read from it.
-use Rattle.std.proofs.Common.{◌≡◌, ◌≤◌, ◌⊎◌, Ordering, ℕ, ◌+◌, max, Bool, true, cond, Result, Ok, List, [], ◌∷◌, map, codes, None, Some, IsSome, is_some, not, position, unwrap_or, refl, sym, ap, subst, ◌∙◌, inl, inr, true≢false, arith}
+use Rattle.std.proofs.Common.{String, Global, string_bytes, Option, append-nil, ◌≡◌, ◌≤◌, ◌<◌, ◌++◌, take, length, get_or, ◌⊎◌, Ordering, ℕ, ◌+◌, max, Bool, true, cond, Result, Ok, List, [], ◌∷◌, map, codes, None, Some, IsSome, is_some, not, position, unwrap_or, refl, sym, ap, subst, ◌∙◌, inl, inr, true≢false, arith}
 use Rattle.std.specs.Ordering.{nat_cmp, match_ordering}
 use Rattle.std.specs.declared.cmp.Ordering.TheVariants.{Equal}
 use Rattle.std.specs.Cmp.Lexicographic.{slice_cmp}
-use Rattle.std.specs.List.{position_from}
+use Rattle.std.specs.List.{cons_option, position_from}
 use Rattle.std.proofs.lemmas.Iterator.Adapters.{position_from-zero}
+use Rattle.std.proofs.lemmas.List.{map-append, take_more}
+use Rattle.std.proofs.lemmas.List.Elements.{filter_map-append}
 use Rattle.std.proofs.lemmas.Map.Lookups.{exact_bytes}
 use Rattle.serde_json.specs.Data.{Data, depth, items_depth, string, object, Members, no_members, member}
 use Rattle.serde_json.specs.Find.{as_object, as_str, get, get_member}
@@ -25,11 +27,6 @@ pub values_in_items_of : (ds : List Data) → values_in (items_of ds) ≡ ds
 values_in_items_of [] = refl
 values_in_items_of (d ∷ ds) = ap (λ xs. d ∷ xs) (values_in_items_of ds)
 
--- the texts of the data of values
-pub texts_of_views : (vs : List Value) → map (λ d. unwrap_or (as_str d) []) (map view vs) ≡ texts_of vs
-texts_of_views [] = refl
-texts_of_views (v ∷ vs) = ap (λ ts. unwrap_or (as_str (view v)) [] ∷ ts) (texts_of_views vs)
-
 -- whether a value is not a text
 abbrev is_no_text : Data → Bool
 is_no_text d = not (is_some (as_str d))
@@ -41,6 +38,40 @@ position_from_view i (v ∷ vs) = ap (λ o. cond (is_no_text (view v)) (Some i) 
 -- the position of the first value whose data is not a text
 pub position_of_view : (vs : List Value) → position (λ v. not (is_some (as_str (view v)))) vs ≡ position is_no_text (map view vs)
 position_of_view vs = position_from-zero (λ v. is_no_text (view v)) vs ∙ sym (position_from_view 0 vs) ∙ sym (position_from-zero is_no_text (map view vs))
+
+-- if every value is a text, the texts of the data of values are the texts among the values
+texts_if_all : (vs : List Value) (i : ℕ) → position_from is_no_text i (map view vs) ≡ None
+    → map (λ d. unwrap_or (as_str d) []) (map view vs) ≡ texts_of vs
+texts_if_all [] i none = refl
+texts_if_all (v ∷ vs) i none =
+    elim (as_str (view v)) as (λ o. cond (not (is_some o)) (Some i) (position_from is_no_text (i + 1) (map view vs)) ≡ None
+    → unwrap_or o [] ∷ map (λ d. unwrap_or (as_str d) []) (map view vs) ≡ cons_option o (texts_of vs)) [
+      | None ↦ λ some. absurd (true≢false (ap is_some some))
+      | Some t ↦ λ rest. ap (λ ts. t ∷ ts) (texts_if_all vs (i + 1) rest)
+    ] none
+
+-- the reading of values that are all texts
+pub reads_all : (vs : List Value) → None ≡ position (λ v. not (is_some (as_str (view v)))) vs → read_texts (map view vs) ≡ Ok (texts_of vs)
+reads_all vs none =
+    let same : position is_no_text (map view vs) ≡ None = sym (position_of_view vs) ∙ sym none in
+    rw (same, texts_if_all vs 0 (sym (position_from-zero is_no_text (map view vs)) ∙ same)) refl
+
+-- the texts among the first i + 1 values are those among the first i, and then value i if it is a text
+pub texts_of_more : (vs : List Value) (i : ℕ) (v : Value) → i < length vs → v ≡ get_or vs i v
+    → texts_of (take (i + 1) vs) ≡ texts_of (take i vs) ++ cons_option (as_str (view v)) []
+texts_of_more vs i v within is =
+    ap texts_of (take_more vs i v within) ∙ filter_map-append (λ u. as_str (view u)) (take i vs) (get_or vs i v ∷ [])
+    ∙ ap (λ u. texts_of (take i vs) ++ cons_option (as_str (view u)) []) (sym is)
+
+-- a text that is pushed is the next one
+pub text_pushed : (pushed : List (String Global)) (text : String Global) (before all : List (List ℕ)) (o : Option (List ℕ))
+    → map string_bytes pushed ≡ before → Some (string_bytes text) ≡ o → all ≡ before ++ cons_option o [] → map string_bytes (pushed ++ text ∷ []) ≡ all
+text_pushed pushed text before all o so_far some is =
+    map-append string_bytes pushed (text ∷ []) ∙ ap (λ ts. ts ++ string_bytes text ∷ []) so_far ∙ ap (λ found. before ++ cons_option found []) some ∙ sym is
+
+-- a value that is not a text adds none
+pub no_text_pushed : (before all : List (List ℕ)) (o : Option (List ℕ)) → None ≡ o → all ≡ before ++ cons_option o [] → before ≡ all
+no_text_pushed before all o none is = sym (is ∙ ap (λ found. before ++ cons_option found []) (sym none) ∙ append-nil before)
 
 all_are_texts : (cs : List (List ℕ)) (i : ℕ) → position_from is_no_text i (map string cs) ≡ None
 all_are_texts [] i = refl

@@ -1,5 +1,6 @@
 -- Definitions for the private steps between an error chain and its JSON value.
-use Rattle.std.specs.Prelude.{ℕ, List, [], codes, map, unwrap_or}
+use Rattle.std.specs.Prelude.{ℕ, List, codes}
+use Rattle.std.specs.List.{filter_map}
 use Rattle.serde_json.specs.Data.{Data, string, object, no_members, member}
 use Rattle.serde_json.specs.Find.{as_str}
 use Rattle.serde_json.specs.View.{view}
@@ -13,6 +14,6 @@ chain_object c =
     object (member (codes "causes") (text_list c.causes)
     (member (codes "message") (string c.message) no_members))
 
--- the texts of values, all of which are texts
+-- the texts among values, in order
 abbrev pub texts_of : List Value → List (List ℕ)
-texts_of vs = map (λ v. unwrap_or (as_str (view v)) []) vs
+texts_of vs = filter_map (λ v. as_str (view v)) vs

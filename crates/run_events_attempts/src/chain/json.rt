@@ -154,7 +154,7 @@ fn causes_of(member: Option<&Value>) -> Result<&[Value], FromValueError>
 }
 
 /// Returns the values if all of them are texts.
-#[tactic(auto, using(crate::proofs::ChainLemmas::texts_of_views, crate::proofs::ChainLemmas::position_of_view))]
+#[tactic(auto, using(crate::proofs::ChainLemmas::reads_all, crate::proofs::ChainLemmas::position_of_view))]
 fn all_texts(items: &[Value]) -> Result<&[Value], FromValueError>
     ensures { result_map_both (λ vs. texts_of vs.now) (λ e. e) result
         ≡ read_texts (map view items.now) }
@@ -172,15 +172,17 @@ fn first_no_text(items: &[Value]) -> Option<usize>
     items.iter().position(|item| !item.is_string())
 }
 
-/// Returns the error with this message and these causes, which are all texts.
+/// Returns the error with this message, whose causes are the texts of these values. Values that are
+/// not texts are left out.
 fn error_of(alloc: Global, message: &str, causes: &[Value]) -> Result<SerializableError, AllocError>
     ensures message { IfOk result (λ e. e.message ≡ message.now) }
     ensures causes { IfOk result (λ e. e.causes ≡ texts_of causes.now) }
 {
     let mut texts = Vec::with_capacity(alloc, causes.len())?;
     for cause in causes {
-        // Every cause is a text here, so `unwrap_or` never takes its default.
-        texts.push(String::from_str(alloc, cause.as_str().unwrap_or(""))?)?;
+        if let Some(text) = cause.as_str() {
+            texts.push(String::from_str(alloc, text)?)?;
+        }
     }
     SerializableError::from_message_and_causes(alloc, String::from_str(alloc, message)?, texts)
 }

@@ -109,12 +109,14 @@ fn first_no_text(items: &[Value]) -> Option<usize> {
     items.iter().position(|item| !item.is_string())
 }
 
-/// Returns the error with this message and these causes, which are all texts.
+/// Returns the error with this message, whose causes are the texts of these values. Values that are
+/// not texts are left out.
 fn error_of(message: &str, causes: &[Value]) -> SerializableError {
     let mut texts = Vec::with_capacity(causes.len());
     for cause in causes {
-        // Every cause is a text here, so `unwrap_or` never takes its default.
-        texts.push(String::from(cause.as_str().unwrap_or("")));
+        if let Some(text) = cause.as_str() {
+            texts.push(String::from(text));
+        }
     }
     SerializableError::from_message_and_causes(String::from(message), texts)
 }
