@@ -54,8 +54,10 @@ impl FinalStatusLevel {
     ) -> Option<FinalStatusLevel>
         ensures { result ≡ final_success_level attempt.now is_slow }
     {
+        if is_slow {
+            return Some(FinalStatusLevel::Slow);
+        }
         match attempt {
-            _ if is_slow => Some(FinalStatusLevel::Slow),
             ExecutionResultDescription::Pass => Some(FinalStatusLevel::Pass),
             ExecutionResultDescription::Leak {
                 result: LeakTimeoutResult::Pass,

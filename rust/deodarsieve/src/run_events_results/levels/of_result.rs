@@ -49,8 +49,10 @@ impl FinalStatusLevel {
         attempt: &ExecutionResultDescription,
         is_slow: bool,
     ) -> Option<FinalStatusLevel> {
+        if is_slow {
+            return Some(FinalStatusLevel::Slow);
+        }
         match attempt {
-            _ if is_slow => Some(FinalStatusLevel::Slow),
             ExecutionResultDescription::Pass => Some(FinalStatusLevel::Pass),
             ExecutionResultDescription::Leak {
                 result: LeakTimeoutResult::Pass,
