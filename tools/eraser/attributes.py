@@ -158,10 +158,15 @@ def _on_function(source, function):
         return
     returned = function.owner if words[0] == "Self" else words[0]
     is_used = returned in types.MUST_USE_BY_THEMSELVES + types.MUST_USE
-    if is_used or "mut" in function.parameter_words():
+    if is_used or _borrows_mutably(function.parameter_words()):
         return
     if source.at(source.before(function.first)) == "]":
         opening = source.partner[source.before(function.first)]
         if source.at(source.after(opening)) == "must_use":
             return
     source.new[function.first] = "#[must_use]\n" + source.new[function.first]
+
+
+def _borrows_mutably(words):
+    """Returns true if a parameter is a `&mut`. One that only is `mut` in the function, such as `mut self`, is none."""
+    return any(word == "mut" and before != "," for before, word in zip(words, words[1:]))

@@ -45,6 +45,7 @@ impl Drop for SerializableError {
 
 impl SerializableError {
     /// Returns an error with this message and these causes, the nearest cause first.
+    #[must_use]
     pub fn from_message_and_causes(message: String, mut causes: Vec<String>) -> Self {
         let mut source: Option<Box<SerializableError>> = None;
         while let Some(message) = causes.pop() {
