@@ -52,8 +52,10 @@ ITEMS_WITH_EXAMPLES = {
     "statuses": ("run_events_attempts/src/attempts/statuses.rt", "pub struct ExecutionStatuses"),
     "chain": ("run_events_attempts/src/chain.rt", "pub struct SerializableError"),
     "levels": ("run_events_results/src/levels.rt", "pub struct StatusLevels"),
+    "test_view": ("run_events_results/src/view.rt", "pub fn new"),
     "results": ("run_events_results/src/results.rt", "pub enum ExecutionResult"),
     "config": ("run_events_results/src/config.rt", "pub enum TestOutputDisplay"),
+    "summary": ("run_events_stats/src/outcome.rt", "pub fn is_success"),
     "run_outcome": ("run_events_stats/src/outcome/run_outcome.rt", "pub enum RunOutcome"),
     "progress": ("run_events/src/progress.rt", "pub enum StressProgress"),
 }

@@ -1,6 +1,7 @@
 -- The parts of a finished test that decide its counters and its levels.
-use Rattle.std.specs.Prelude.{ℕ, Bool}
+use Rattle.std.specs.Prelude.{ℕ, Bool, false}
 use Rattle.run_events_results.specs.declared.config.FlakyResult.{FlakyResult}
+use Rattle.run_events_results.specs.declared.config.FlakyResult.TheVariants as flaky
 use Rattle.run_events_results.specs.declared.results.ExecutionResultDescription.{ExecutionResultDescription}
 use Rattle.run_events_results.specs.declared.view.FinishedTest.{FinishedTest}
 use Rattle.run_events_results.specs.declared.view.TestView as declared
@@ -15,6 +16,10 @@ pub record ViewedTest : Type 0 where
   pub is_slow : Bool
   -- how the test counts if it is flaky
   pub flaky_result : FlakyResult
+
+-- a test with this result at its only attempt, which was not slow, and the setting that a flaky test counts as passed
+abbrev pub only_attempt : ExecutionResultDescription → ViewedTest
+only_attempt r = record { result = r; attempts = 1; is_slow = false; flaky_result = flaky.Pass }
 
 -- the parts in a borrowed view
 abbrev pub said_of : declared.TestView → ViewedTest

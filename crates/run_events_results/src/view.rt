@@ -2,7 +2,7 @@
 
 ghost use Rattle.std.specs.Prelude.{◌≡◌, Some};
 ghost use Rattle.run_events_results.specs.Level.{final_level_of, level_of};
-ghost use Rattle.run_events_results.specs.ViewedTest.{finished_view, said_of};
+ghost use Rattle.run_events_results.specs.ViewedTest.{finished_view, only_attempt, said_of};
 
 use crate::config::FlakyResult;
 use crate::levels::{FinalStatusLevel, StatusLevel};
@@ -24,6 +24,45 @@ pub struct TestView<'a> {
     /// How the test counts if it is flaky, that is if its last attempt succeeded and is not its
     /// first.
     pub flaky_result: FlakyResult,
+}
+
+impl<'a> TestView<'a> {
+    /// Returns a test with this result at its only attempt, which was not slow. If it is given more
+    /// attempts and so is flaky, it counts as passed.
+    pub fn new(attempt: &'a ExecutionResultDescription) -> Self
+        ensures { said_of result ≡ only_attempt attempt.now }
+    {
+        TestView {
+            result: attempt,
+            attempts: 1,
+            is_slow: false,
+            flaky_result: FlakyResult::Pass,
+        }
+    }
+
+    /// Returns the same test with this number of attempts.
+    pub fn with_attempts(mut self, attempts: usize) -> Self
+        ensures { said_of result ≡ record (said_of self.entry) { attempts = attempts } }
+    {
+        self.attempts = attempts;
+        self
+    }
+
+    /// Returns the same test, whose last attempt took longer than the slow timeout if `is_slow`.
+    pub fn with_slow(mut self, is_slow: bool) -> Self
+        ensures { said_of result ≡ record (said_of self.entry) { is_slow = is_slow } }
+    {
+        self.is_slow = is_slow;
+        self
+    }
+
+    /// Returns the same test with this setting for how it counts if it is flaky.
+    pub fn with_flaky_result(mut self, flaky_result: FlakyResult) -> Self
+        ensures { said_of result ≡ record (said_of self.entry) { flaky_result = flaky_result } }
+    {
+        self.flaky_result = flaky_result;
+        self
+    }
 }
 
 impl TestView<'_> {

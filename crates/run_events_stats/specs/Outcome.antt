@@ -1,5 +1,5 @@
 -- The outcomes of runs and sub-runs, and the summary of a repeated run.
-use Rattle.std.specs.Prelude.{◌≡◌, ◌≤◌, ◌⊎◌, ℕ, if◌then◌else◌, nat_le, nat_lt, List, [], map, All, Contains}
+use Rattle.std.specs.Prelude.{◌≡◌, ◌≤◌, ◌⊎◌, ℕ, Bool, true, false, if◌then◌else◌, nat_le, nat_lt, List, [], map, All, Contains}
 use Rattle.run_events_stats.specs.Counters.{stats_of, unit_view}
 use Rattle.run_events_stats.specs.Summary.{summary_of}
 use Rattle.run_events_stats.specs.declared.outcome.FinalRunStats.{FinalRunStats}
@@ -26,6 +26,13 @@ step_rank step.SetupScript = 1
 abbrev pub step_of : RunStatsFailureKind → RunFailureStep
 step_of kind.SetupScript = step.SetupScript
 step_of (kind.Test initial_run_count not_run) = step.Test
+
+-- whether a summary is that of a successful run
+abbrev pub summary_succeeds : FinalRunStats → Bool
+summary_succeeds summary.Success = true
+summary_succeeds summary.NoTestsRun = false
+summary_succeeds (summary.Cancelled reason kind) = false
+summary_succeeds (summary.Failed kind) = false
 
 -- the outcome of one run: the case and the step of its summary
 abbrev pub outcome_of : FinalRunStats → RunOutcome

@@ -1,7 +1,7 @@
 //! The summary of a run and its outcome.
 
 ghost use Rattle.std.specs.Prelude.{◌≡◌};
-ghost use Rattle.run_events_stats.specs.Outcome.{step_of};
+ghost use Rattle.run_events_stats.specs.Outcome.{step_of, summary_succeeds};
 
 use run_events_results::results::CancelReason;
 
@@ -34,6 +34,21 @@ pub enum FinalRunStats {
         /// The step at which it failed or was cancelled.
         kind: RunStatsFailureKind,
     },
+}
+
+impl FinalRunStats {
+    /// Returns true if the run was successful: a test ran, nothing failed, and nothing that was to
+    /// run is missing.
+    pub fn is_success(self) -> bool
+        ensures { result ≡ summary_succeeds self }
+    {
+        match self {
+            FinalRunStats::Success => true,
+            FinalRunStats::NoTestsRun
+            | FinalRunStats::Cancelled { .. }
+            | FinalRunStats::Failed { .. } => false,
+        }
+    }
 }
 
 /// The step of a run at which it failed or was cancelled.

@@ -24,6 +24,51 @@ pub struct TestView<'a> {
     pub flaky_result: FlakyResult,
 }
 
+impl<'a> TestView<'a> {
+    /// Returns a test with this result at its only attempt, which was not slow. If it is given more
+    /// attempts and so is flaky, it counts as passed.
+    ///
+    /// ```
+    /// use deodarsieve::{ExecutionResultDescription, RunStats, TestView};
+    ///
+    /// let mut stats = RunStats::default();
+    /// let mut test = TestView::new(&ExecutionResultDescription::Pass);
+    /// test.attempts = 2;
+    /// stats.on_test_view(&test);
+    /// assert_eq!((stats.passed, stats.flaky), (1, 1));
+    /// ```
+    #[must_use]
+    pub fn new(attempt: &'a ExecutionResultDescription) -> Self {
+        TestView {
+            result: attempt,
+            attempts: 1,
+            is_slow: false,
+            flaky_result: FlakyResult::Pass,
+        }
+    }
+
+    /// Returns the same test with this number of attempts.
+    #[must_use]
+    pub fn with_attempts(mut self, attempts: usize) -> Self {
+        self.attempts = attempts;
+        self
+    }
+
+    /// Returns the same test, whose last attempt took longer than the slow timeout if `is_slow`.
+    #[must_use]
+    pub fn with_slow(mut self, is_slow: bool) -> Self {
+        self.is_slow = is_slow;
+        self
+    }
+
+    /// Returns the same test with this setting for how it counts if it is flaky.
+    #[must_use]
+    pub fn with_flaky_result(mut self, flaky_result: FlakyResult) -> Self {
+        self.flaky_result = flaky_result;
+        self
+    }
+}
+
 impl TestView<'_> {
     /// Returns the level of the test when it finishes: `Retry` or `Fail` for a flaky test, `Fail` for
     /// a failed one, and for a success at the first attempt the level that [`StatusLevel::of_success`]

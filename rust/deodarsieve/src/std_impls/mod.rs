@@ -11,7 +11,6 @@ mod errors;
 mod exit_status;
 #[cfg(feature = "std")]
 mod io_errors;
-mod outcomes;
 mod records;
 #[cfg(feature = "serde")]
 pub(crate) mod serde;
@@ -20,7 +19,6 @@ mod signal_names;
 #[cfg(feature = "std")]
 mod system_time;
 mod unit_error_lists;
-mod views;
 
 #[cfg(feature = "std")]
 pub(crate) use captured::KeptText;
