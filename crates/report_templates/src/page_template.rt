@@ -6,9 +6,9 @@
 /// a server blocks the style sheet, a bar is its numbers, so there is a space after each. The list `open` has at most one
 /// item, because a second one would repeat an attribute.
 ///
-/// Texts of tests are pieces, of which some have colours. The classes are `c0` to `c15` for the colours of characters, `g0`
-/// to `g15` for those behind them, and `b`, `d`, `i` and `u`. Each colour of characters can be read on each one behind
-/// them, so white on a light page is dark.
+/// A text of a test is divided into pieces, each plain or coloured. The classes of a coloured piece are `c0` to `c15` for
+/// the colour of its characters, `g0` to `g15` for the colour behind them, and `b`, `d`, `i` and `u` for bold, dim, italic
+/// and underlined. Characters of each colour can be read on each colour behind them, so white on a light page is dark.
 pub const PAGE: &str = r#"<html lang="en">
 <head>
 <meta charset="utf-8"/>

@@ -1,7 +1,8 @@
 //! How an attempt to run a test or a setup script ended, how it counts and what is shown of it.
 //!
-//! The modules `config`, `run_mode` and `stress` have the settings that decide this, and the numbers of sub-runs. `levels`
-//! ranks how much attention a finished test needs. `view` has what decides about it.
+//! The modules `config`, `run_mode` and `stress` have the settings that decide this, and the numbers of
+//! sub-runs. `levels` ranks how much attention a finished test needs. `view` has the parts of a finished
+//! test that decide its counters and levels.
 //!
 //! A function that returns the result of an attempt in one word:
 //!
