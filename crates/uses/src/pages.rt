@@ -1,18 +1,15 @@
 //! Runs the callers that the pages on calling show, and prints their results.
 
 use crate::demo::{PANICKED, PASSED, START};
-use crate::first_pages::{is_displayed, is_over, word_of_end};
+use crate::first_pages::word_of_end;
 use crate::of_output_slice::{failure_in, has_panicked};
 use crate::of_program_io::copy;
 use crate::of_run_digest_engine::first_bad_line;
 use crate::of_run_events::{ends_well, finished_at_first, finished_script, stats_of_both};
 use program_io::memory_device::{MemorySink, MemorySource};
-use run_events::config::TestOutputDisplay;
-use run_events::progress::StressProgress;
 use run_events::stats::{FinishedUnit, RunStats};
 use std::alloc::{AllocError, Global};
 use std::io;
-use std::time::Duration;
 
 /// A run whose line 3 has no word for a result.
 const BAD_RUN: &[u8] = b"run 2 0 -\ntest pass\ntest maybe\n";
@@ -26,7 +23,7 @@ pub(crate) fn show<R: AllocGlobal + Print>(
     println!(rt; "callers")?;
     show_output(rt, output)?;
     show_counts(rt, units)?;
-    show_first_pages(rt)?;
+    show_ends(rt)?;
     show_bad_line(rt)?;
     show_copy(rt)
 }
@@ -57,20 +54,10 @@ fn show_counts<R: AllocGlobal + Print>(rt: &R, units: &[FinishedUnit<'_>]) -> io
     println!(rt; "  the run ends well: {well}")
 }
 
-/// Prints the results of the callers of first pages, for two results of attempts, one display and
-/// one repeated run.
-fn show_first_pages<R: Print>(rt: &R) -> io::Result<()> {
+/// Prints the words for the results of two attempts.
+fn show_ends<R: Print>(rt: &R) -> io::Result<()> {
     let (passed, panicked) = (word_of_end(PASSED.outcome), word_of_end(PANICKED.outcome));
-    println!(rt; "  ends: {passed}, {panicked}")?;
-    let displayed = is_displayed(TestOutputDisplay::Final);
-    println!(rt; "  displayed at any time: {displayed}")?;
-    let hour = Duration::from_secs(3_600);
-    let over = is_over(&StressProgress::Time {
-        total: hour,
-        elapsed: hour,
-        completed: 7,
-    });
-    println!(rt; "  nothing remains: {over}")
+    println!(rt; "  ends: {passed}, {panicked}")
 }
 
 /// Prints the number of the first bad line of the bad run.

@@ -1,5 +1,6 @@
 //! Runs the callers that the pages on calling show, and prints their results.
 
+use crate::first_pages::lacks_success;
 use crate::report::of_report_templates::page;
 use crate::report::of_report_text::failed_test;
 use crate::report::of_template::greeting;
@@ -94,12 +95,15 @@ fn show_failed<R: AllocGlobal + Print>(rt: &R) -> io::Result<()> {
     println!(rt; "  {shown}")
 }
 
-/// Prints the sums of the run that ended early.
+/// Prints the sums of the run that ended early, and whether it lacks success.
 fn show_end<R: AllocGlobal + Print>(rt: &R) -> io::Result<()> {
     match end_of_lines(rt.alloc(), &ABORTED_RUN) {
         Ok(end) => println!(rt;
-            "  {} passed, {} crashed, {} not run",
-            end.stats.passed, end.crashed, end.not_run
+            "  {} passed, {} crashed, {} not run, lacks success: {}",
+            end.stats.passed,
+            end.crashed,
+            end.not_run,
+            lacks_success(&end)
         ),
         Err(_) => println!(rt; "  no end"),
     }
