@@ -35,6 +35,11 @@ def proved(crate):
     return f"{TOP}/crates/{crate}/out/proved/{crate}.rlib"
 
 
+def kept(crate):
+    """Returns the folder in which `rt` and the tools keep what they proved of a crate, for the next check of it."""
+    return f"{TOP}/crates/{crate}/out/incremental"
+
+
 def words(toolchain, crate, built):
     """Returns the arguments that name a crate and all that it uses, for a call in the crate's folder.
 
