@@ -1,8 +1,8 @@
 """Runs `rt ci` in the current folder, and keeps what it proves: `python3 tools/kept_ci.py FOLDER [--anew]`.
 
-`rt ci` proves a crate from nothing and keeps no proof. Here each crate has a new folder, FOLDER/CRATE, in which the
-prover keeps what it proves. So the crate is proved from nothing as well. All else is as in `rt ci`: the words that it
-refuses, contracts that no call can meet, both compilers, and the runs of programs.
+`rt ci` proves a crate from nothing and keeps no proof. Here each crate but the programs has a new folder, FOLDER/CRATE,
+in which the prover keeps what it proves. So the crate is proved from nothing as well. All else is as in `rt ci`: the
+words that it refuses, contracts that no call can meet, both compilers, and the runs of programs.
 """
 
 import importlib.machinery
@@ -41,6 +41,8 @@ def main(folder, *words):
     rt.rtlib.VERDICT = Verdict(rt.rtlib.VERDICT)
 
     def prove_and_keep(crate, *commands):
+        if crate.is_program:
+            return prove(crate, *commands)
         # A library that holds only its statements cannot be built over such a folder.
         plain = [[word for word in command if word != "--statements"] for command in commands]
         return prove(crate, *([*command, "--incremental", f"{folder}/{crate.name}"] for command in plain))
