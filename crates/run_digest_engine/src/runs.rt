@@ -1,7 +1,9 @@
 //! The report of finished runs.
 
-ghost use Rattle.std.specs.Prelude.{IfOk, map, string_bytes};
+ghost use Rattle.std.specs.Prelude.{◌≡◌, IfOk, map, string_bytes};
+ghost use Rattle.run_events_stats.specs.Summary.{FailuresFit};
 ghost use Rattle.run_digest_engine.specs.Counted.{AreStats};
+ghost use Rattle.run_digest_engine.specs.Report.{run_stats};
 ghost use Rattle.run_digest_engine.specs.RunReports.{AgreesWithCount, ReportsRuns, run_view};
 
 use crate::report::{push_outcome, report_texts};
@@ -9,13 +11,21 @@ use run_events_stats::outcome::RunOutcome;
 use run_events_stats::stats::{FinishedRun, RunStats};
 use std::alloc::{AllocError, Global};
 
+/// Returns the statistics of a finished run.
+fn stats_of_run(run: &FinishedRun<'_>) -> RunStats
+    ensures is { result ≡ run_stats (run_view run.now) }
+    ensures fit { FailuresFit result }
+{
+    RunStats::of_run(run.units, run.start)
+}
+
 /// Returns the statistics of finished runs.
 fn stats_of_runs(alloc: Global, runs: &[FinishedRun<'_>]) -> Result<Vec<RunStats>, AllocError>
     ensures { IfOk result (λ v. AreStats v.items (map run_view runs.now)) }
 {
     let mut all = Vec::with_capacity(alloc, runs.len())?;
     for run in runs {
-        all.push(RunStats::of_run(run.units, run.start))?;
+        all.push(stats_of_run(run))?;
     }
     Ok(all)
 }

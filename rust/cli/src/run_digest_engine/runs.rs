@@ -4,11 +4,16 @@
 use crate::run_digest_engine::report::{push_outcome, report_texts};
 use deodarsieve::{FinishedRun, RunOutcome, RunStats};
 
+/// Returns the statistics of a finished run.
+fn stats_of_run(run: &FinishedRun<'_>) -> RunStats {
+    RunStats::of_run(run.units, run.start)
+}
+
 /// Returns the statistics of finished runs.
 fn stats_of_runs(runs: &[FinishedRun<'_>]) -> Vec<RunStats> {
     let mut all = Vec::with_capacity(runs.len());
     for run in runs {
-        all.push(RunStats::of_run(run.units, run.start));
+        all.push(stats_of_run(run));
     }
     all
 }
