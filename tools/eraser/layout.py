@@ -19,7 +19,7 @@ from .memory import without_memory
 from .paths import public_names, with_package_paths
 from .places import with_places
 from .scanner import Refused
-from .table import BY_HAND, FOLDERS, NOT_IN_PLAIN_RUST, PACKAGE_OF, PACKAGES, PARTS, PATH_OF
+from .table import BY_HAND, FOLDERS, NOT_IN_PLAIN_RUST, PACKAGE_OF, PACKAGES, PATH_OF
 from .twins import without_twins
 
 
@@ -67,9 +67,8 @@ def _sources(top):
 
 def _is_erased(name):
     """Returns true if the source file of this name is erased."""
-    crate, _, *modules = Path(name).with_suffix("").parts
-    is_in_part = crate not in PARTS or modules[0] in PARTS[crate]
-    return is_in_part and not set(modules) & set(NOT_IN_PLAIN_RUST) and name not in BY_HAND
+    modules = Path(name).with_suffix("").parts[2:]
+    return not set(modules) & set(NOT_IN_PLAIN_RUST) and name not in BY_HAND
 
 
 def _reach():
@@ -86,9 +85,7 @@ def target_of(name):
     """Returns the path under rust/ of the erased file of a source."""
     crate, _, *folders, file = name.split("/")
     stem = file[: -len(".rt")]
-    if not folders and stem in PARTS.get(crate, ()):
-        folders, stem = [stem], "mod"
-    elif not folders and stem in ("lib", "main"):
+    if not folders and stem in ("lib", "main"):
         stem = "mod"
     return "/".join([FOLDERS[PACKAGE_OF[crate]], *PATH_OF[crate], *folders, stem + ".rs"])
 
@@ -121,7 +118,7 @@ def erased_folders(top):
     folders = []
     for package, crates in PACKAGES.items():
         for crate in crates:
-            folders += [top / "rust" / FOLDERS[package] / module for module in PARTS.get(crate, PATH_OF[crate])]
+            folders += [top / "rust" / FOLDERS[package] / module for module in PATH_OF[crate]]
     return folders
 
 

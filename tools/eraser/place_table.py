@@ -174,16 +174,6 @@ pub struct ExecutionStatusesIter<'a, S: OutputSpec> {
     # A value leaves a box by `*`.
     ("test_report_run/src/run/programs.rt", "Box::into_inner(suite)", "*suite"),
     ("test_report_run/src/open_suites/changes.rt", "Box::into_inner(self.list.remove(at))", "*self.list.remove(at)"),
-    # The crate's own moments are made otherwise.
-    (
-        "test_tools/src/fixtures.rt",
-        """    Moment {
-        timestamp: Timestamp::UNIX_EPOCH,
-        offset: Offset::UTC,
-    }
-""",
-        "Moment::UNIX_EPOCH",
-    ),
     # No width, fill or precision changes the text, as with nextest's type.
     (
         "output_slice/src/subslice.rt",
@@ -269,8 +259,6 @@ pub struct ExecutionStatusesIter<'a, S: OutputSpec> {
     ),
     # An error of serde_json is never a refusal of memory.
     ("test_report_events/src/line.rt", "        Err(error) if error.is_memory() => Err(AllocError),\n", ""),
-    # More attempts than a `u32` counts are never made.
-    ("test_tools/src/fixtures.rt", "return Err(AllocError);", 'panic!("a test has too many attempts");'),
     # Nothing is refused, so nothing is handed back.
     ("run_events_attempts/src/child.rt", "{ChildExecutionOutput, Refused}", "ChildExecutionOutput"),
     (

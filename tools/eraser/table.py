@@ -13,25 +13,14 @@ PACKAGES = {
     ),
     RUN: ("test_report_events", "test_report_run_notes", "test_report_run", "test_report_programs"),
     "deodarsieve-c": ("c_values", "deodarsieve"),
-    "deodarsieve-tests": (
-        "test_tools",
-    ),
 }
 
-# The folder in rust/ in which the modules of a package are. The samples for tests are with the tests of the layer, which
-# are packaged with it; the package of tests uses them from there.
-FOLDERS = {
-    LAYER: "deodarsieve/src", RUN: "run/src", "deodarsieve-cli": "cli/src", "deodarsieve-c": "c/src",
-    "deodarsieve-tests": "deodarsieve/tests",
-}
+# The folder in rust/ in which the modules of a package are.
+FOLDERS = {LAYER: "deodarsieve/src", RUN: "run/src", "deodarsieve-cli": "cli/src", "deodarsieve-c": "c/src"}
 PACKAGE_OF = {crate: package for package, crates in PACKAGES.items() for crate in crates}
 
-# Crates of which only these modules are in plain Rust. They are modules of the package itself.
-PARTS = {"test_tools": ("fixtures",)}
-
 # The path of a crate's modules in its package.
-PATH_OF = {crate: ["exports" if crate == "deodarsieve" else crate] for crate in PACKAGE_OF if crate not in PARTS}
-PATH_OF |= {crate: [] for crate in PARTS}
+PATH_OF = {crate: ["exports" if crate == "deodarsieve" else crate] for crate in PACKAGE_OF}
 PATH_OF |= {"test_report_events": ["events"], "test_report_run_notes": ["notes"], "test_report_run": ["run"], "test_report_programs": ["programs"]}
 
 # The packages that are published.

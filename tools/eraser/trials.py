@@ -46,7 +46,7 @@ TABLE_SAMPLES = {
     "the conditions, without a function": lambda: with_conditions("fn f() {}", "output_slice/src/panic_head.rt"),
 }
 HERE = Path(__file__).resolve().parent
-REACH = {crate: {crate} for crate in ("test_tools", "program_io", "output_slice", "deodarsieve")}
+REACH = {crate: {crate} for crate in ("program_io", "output_slice", "deodarsieve")}
 
 
 def run():
@@ -108,7 +108,7 @@ def _refusal_failures(refusals):
     failures = []
     for message, text in refusals:
         try:
-            found = _erased(text, "test_tools/src/sample.rt")
+            found = _erased(text, "program_io/src/sample.rt")
         except Refused as refusal:
             found = None if message in str(refusal) else str(refusal)
         if found is not None:

@@ -1,64 +1,87 @@
-//! Runs calls of the libraries. The calls are in the libraries `uses` and `test_tools`.
+//! Makes calls that allocate, and prints the outcome of each. `./allocation-failures` runs this program
+//! with a small library loaded before it that makes one allocation fail.
 //!
-//! - `callers examples` runs the examples of use, which are in `uses`.
-//! - `callers allocation NAME` makes one call that allocates. It is for `./allocation-failures`, and the
-//!   calls are in `test_tools::allocation_failures`.
-//! - `callers bench MEGABYTES` and `callers bench small` measure calls. They are for `./bench`, and the
-//!   calls are in `test_tools::bench`.
-//! - `callers all` runs the examples, makes each call that allocates, and measures calls on small
-//!   inputs.
+//! `callers NAME` makes one call, and `callers all` makes each once. A call allocates its arguments
+//! first, and nothing is allocated after it. The calls with large values test that these succeed.
+//! A line has the name of the call and its outcome:
 //!
-//! The exit status is 0 if all results are right, 1 if one is not, and 2 for other arguments. If the
-//! arguments cannot be read, it prints `not reached`, as for a call that was not made.
+//! - `not reached`: an allocation failed before the call;
+//! - `out of memory`: the call returned this error, and what it borrowed is unchanged;
+//! - `right answer`: the call returned the right result;
+//! - `wrong answer`: anything else.
+//!
+//! The exit status is 1 if an answer is wrong. A name of no call is a wrong answer.
 #![tactic(auto)]
 
+use crate::lists::{Kinds, list_of_errors, no_errors};
+use crate::outcome::Outcome;
+use std::alloc::{AllocError, Global};
 use std::process::ExitCode;
-use std::rt::Clock;
 use std::{env, io};
-use test_tools::bench::size::Size;
-use test_tools::{allocation_failures, bench};
 
-const USAGE: &str = "usage: callers examples|allocation NAME|bench MEGABYTES|bench small|all";
+mod chain;
+mod child;
+mod lists;
+mod outcome;
+mod sub_run;
 
-/// Measures calls at the named size. Returns true if all answers are right, or `None` if the word names
-/// no size.
-fn measure<R: AllocGlobal + Clock + Print>(rt: &R, word: &str) -> io::Result<Option<bool>> {
-    match Size::named(word) {
-        Some(size) => Ok(Some(bench::measure_all(rt, size)?)),
-        None => Ok(None),
+/// The names of the calls.
+const NAMES: [&str; 14] = [
+    "from-message-and-causes",
+    "to-value",
+    "from-value",
+    "from-other-values",
+    "long-error",
+    "from-output",
+    "from-output-without-errors",
+    "all-errors",
+    "exec-fail-errors",
+    "child-process-errors",
+    "no-errors",
+    "many-errors",
+    "many-exec-fail-errors",
+    "unique-id",
+];
+
+/// Makes the arguments of the named call, then the call. It is an error if an allocation fails
+/// before the call.
+fn outcome_of(alloc: Global, name: &str) -> Result<Outcome, AllocError> {
+    match name {
+        "from-message-and-causes" => chain::from_message_and_causes(alloc),
+        "to-value" => chain::to_value(alloc),
+        "from-value" => chain::from_value(alloc),
+        "from-other-values" => chain::from_other_values(alloc),
+        "long-error" => chain::long_error(alloc),
+        "from-output" => child::from_output(alloc),
+        "from-output-without-errors" => child::from_output_without_errors(alloc),
+        "all-errors" => list_of_errors(alloc, Kinds::All, 2, 4),
+        "exec-fail-errors" => list_of_errors(alloc, Kinds::ExecFail, 2, 2),
+        "child-process-errors" => list_of_errors(alloc, Kinds::ChildProcess, 2, 2),
+        "no-errors" => Ok(no_errors(alloc)),
+        "many-errors" => list_of_errors(alloc, Kinds::All, 2_000, 2_002),
+        "many-exec-fail-errors" => list_of_errors(alloc, Kinds::ExecFail, 2_000, 2_000),
+        "unique-id" => Ok(sub_run::unique_id(alloc)),
+        _ => Ok(Outcome::WrongAnswer),
     }
 }
 
-/// Runs the examples of use.
-fn run_examples<R: AllocGlobal + Print>(rt: &R) -> io::Result<()> {
-    uses::run(rt)?;
-    uses::report::run(rt)
+/// Makes the named call, and prints its name and its outcome. Returns true unless the answer is
+/// wrong.
+fn make<R: AllocGlobal + Print>(rt: &R, name: &str) -> io::Result<bool> {
+    let outcome = outcome_of(rt.alloc(), name).unwrap_or(Outcome::NotReached);
+    let text = outcome.text();
+    println!(rt; "{name}: {text}")?;
+    Ok(!matches!(outcome, Outcome::WrongAnswer))
 }
 
-/// Runs all parts. Returns true if all results are right.
-fn run_all<R: AllocGlobal + Clock + Print>(rt: &R) -> io::Result<bool> {
-    run_examples(rt)?;
-    let are_right = allocation_failures::make_all(rt)?;
-    Ok(bench::measure_all(rt, Size::SMALL)? && are_right)
-}
-
-/// Runs a part, with its argument if it has one. Returns true if all results are right, or `None` if
-/// there is no such part.
-fn run<R: AllocGlobal + Clock + Print>(
-    rt: &R,
-    part: &str,
-    word: Option<&str>,
-) -> io::Result<Option<bool>> {
-    match (part, word) {
-        ("examples", None) => {
-            run_examples(rt)?;
-            Ok(Some(true))
-        }
-        ("allocation", Some(name)) => Ok(Some(allocation_failures::make(rt, name)?)),
-        ("bench", Some(size)) => measure(rt, size),
-        ("all", None) => Ok(Some(run_all(rt)?)),
-        _ => Ok(None),
+/// Makes each call once, as [`make`] does. Returns true unless an answer is wrong.
+fn make_all<R: AllocGlobal + Print>(rt: &R) -> io::Result<bool> {
+    let mut are_right = true;
+    for name in NAMES {
+        let is_right = make(rt, name)?;
+        are_right = are_right && is_right;
     }
+    Ok(are_right)
 }
 
 fn main(rt: HostRuntime) -> io::Result<ExitCode> {
@@ -67,20 +90,12 @@ fn main(rt: HostRuntime) -> io::Result<ExitCode> {
         return Ok(ExitCode::FAILURE);
     };
     let _program = words.next();
-    let (part, word, more) = (words.next(), words.next(), words.next());
-    let part = part.as_ref().map_or("", |part| part.as_str());
-    let word = word.as_ref().map(|word| word.as_str());
-    let are_right = if more.is_some() {
-        None
+    let name = words.next();
+    let name = name.as_ref().map_or("", |name| name.as_str());
+    let are_right = if name == "all" {
+        make_all(&rt)?
     } else {
-        run(&rt, part, word)?
+        make(&rt, name)?
     };
-    match are_right {
-        Some(true) => Ok(ExitCode::SUCCESS),
-        Some(false) => Ok(ExitCode::FAILURE),
-        None => {
-            eprintln!(rt; "{USAGE}")?;
-            Ok(ExitCode::from(2))
-        }
-    }
+    Ok(ExitCode::from(u8::from(!are_right)))
 }

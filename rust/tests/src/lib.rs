@@ -1,8 +1,7 @@
 //! The tests of deodarsieve.
 //!
-//! `tools/erase` writes the module `fixtures`, which the tests of the layer have too, from that of the same name in
-//! `crates/test_tools`. The other files are written by hand. `output_slice_tests` is a program: `tests/programs.rs` compares its output with
-//! the stored one.
+//! The tests of the layer, which are packaged with it, have the module `fixtures` too. `output_slice_tests` is a program:
+//! `tests/programs.rs` compares its output with the stored one.
 
 #![forbid(unsafe_code)]
 

@@ -107,27 +107,26 @@ fn short_rows() -> impl Iterator<Item = Row> {
 
 /// Returns the rows of ordinary output, of short output, and of output that is chosen to take long.
 pub fn rows() -> Vec<Row> {
-    let stderr =
-        |name, output: Output| Row::new(name, move |size| work(&output, Streams::Stderr, size));
-    let front = stderr("panic-at-front", inputs::PANIC_AT_FRONT);
+    let row = |streams, name, most_passes, output: Output| {
+        Row::new(name, move |size| work(&output, streams, size)).with_most_passes(most_passes)
+    };
+    let stderr = |name, most_passes, output| row(Streams::Stderr, name, most_passes, output);
     let ordinary = [
-        stderr("panic-near-end", inputs::PANIC_NEAR_END),
-        front.with_most_passes(1.2),
-        stderr("nothing-found", inputs::NOTHING_FOUND),
-        stderr("false-opening", inputs::FALSE_OPENING),
+        stderr("panic-near-end", 0.01, inputs::PANIC_NEAR_END),
+        stderr("panic-at-front", 1.2, inputs::PANIC_AT_FRONT),
+        stderr("nothing-found", 4.0, inputs::NOTHING_FOUND),
+        stderr("false-opening", 5.0, inputs::FALSE_OPENING),
     ];
     let adverse = [
-        stderr("heads", inputs::HEADS),
-        stderr("openings", inputs::OPENINGS),
-        stderr("openings-started", inputs::OPENINGS_STARTED),
-        stderr("openings-spaced", inputs::OPENINGS_SPACED),
-        stderr("quotes", inputs::QUOTES),
-        stderr("newlines", inputs::NEWLINES),
-        stderr("quotes-in-heads", inputs::QUOTES_IN_HEADS),
-        Row::new("near-notes", |size| {
-            work(&inputs::NEAR_NOTES, Streams::Stdout, size)
-        }),
-        stderr("white-space", inputs::WHITE_SPACE),
+        stderr("heads", 0.01, inputs::HEADS),
+        stderr("openings", 30.0, inputs::OPENINGS),
+        stderr("openings-started", 30.0, inputs::OPENINGS_STARTED),
+        stderr("openings-spaced", 30.0, inputs::OPENINGS_SPACED),
+        stderr("quotes", 4.0, inputs::QUOTES),
+        stderr("newlines", 4.0, inputs::NEWLINES),
+        stderr("quotes-in-heads", 30.0, inputs::QUOTES_IN_HEADS),
+        row(Streams::Stdout, "near-notes", 10.0, inputs::NEAR_NOTES),
+        stderr("white-space", 30.0, inputs::WHITE_SPACE),
     ];
     ordinary
         .into_iter()

@@ -1,7 +1,8 @@
 //! Measures the speed of the crates, next to that of the proved static library.
 //!
-//! `cargo bench -p deodarsieve-tests` prints a line for each call: its name, its time, and its time
-//! as a multiple of the time of one pass over the same input. With `--features archive`, for which
+//! `cargo bench -p deodarsieve-tests` prints a line for each call: its name, its time, its time as a
+//! multiple of the time of one pass over the same input, and its time as a multiple of its time at
+//! half the size, unless it takes less than a millisecond. With `--features archive`, for which
 //! DEODARSIEVE_LIB_DIR is the folder of the library, a line also has the time as a multiple of the
 //! time that the library takes, if the library has the call. A time is the least of 15.
 //!
@@ -9,8 +10,9 @@
 //! counters is one read of each, and a pass over the lines of a test run parses each as JSON.
 //!
 //! The exit status is 1 if a call takes more than 1.1 times as long as the library's and 25 ns
-//! more, or if a call takes more passes than its limit. The 25 ns are for the searcher that
-//! bstr builds at each search. If a result is wrong, the program panics.
+//! more, if a call takes more passes than its limit, or if it takes more than 2.5 times as long as
+//! at half the size. The 25 ns are for the searcher that bstr builds at each search. If a result is
+//! wrong, the program panics.
 
 /// Makes an `Option` of a step of the proved library: `None` without the feature `archive`.
 macro_rules! archived {
@@ -31,7 +33,7 @@ mod timing;
 
 use std::env;
 use std::process::ExitCode;
-use timing::{Times, Work, least_times};
+use timing::{MOST_GROWTH, Times, Work, least_times};
 
 /// A call, which is measured at a size in bytes.
 struct Row {
@@ -67,6 +69,9 @@ fn verdict(times: &Times, most_passes: Option<f64>) -> String {
     if times.is_above_archive() {
         return "above the library".to_string();
     }
+    if times.growth().is_some_and(|growth| growth > MOST_GROWTH) {
+        return format!("growth above {MOST_GROWTH}");
+    }
     match most_passes {
         Some(most) if times.passes() > most => format!("above {most} passes"),
         _ => "within".to_string(),
@@ -75,16 +80,16 @@ fn verdict(times: &Times, most_passes: Option<f64>) -> String {
 
 /// Measures a row, prints its line, and returns true if it is within its bounds.
 fn is_within(row: &Row, size: usize) -> bool {
-    let times = least_times((row.work)(size));
+    let times = least_times((row.work)(size), (row.work)(size / 2).call);
     let verdict = verdict(&times, row.most_passes);
-    let archive = times
-        .of_archive()
-        .map_or("-".to_string(), |ratio| format!("{ratio:.3}"));
+    let shown = |ratio: Option<f64>| ratio.map_or("-".to_string(), |ratio| format!("{ratio:.3}"));
     println!(
-        "{:17} {:>12.6} {:>9.3} {archive:>9} {verdict}",
+        "{:17} {:>12.6} {:>9.3} {:>9} {:>9} {verdict}",
         row.name,
         times.milliseconds(),
         times.passes(),
+        shown(times.growth()),
+        shown(times.of_archive()),
     );
     verdict == "within"
 }
@@ -104,7 +109,7 @@ fn main() -> ExitCode {
         eprintln!("usage: cargo bench -p deodarsieve-tests [--features archive] [-- MEGABYTES]");
         return ExitCode::from(2);
     };
-    println!("call                        ms    passes   library");
+    println!("call                        ms    passes    growth   library");
     let rows = extraction::rows()
         .into_iter()
         .chain(engines::rows())

@@ -29,9 +29,14 @@ const MOST_OF_ARCHIVE: f64 = 1.1;
 /// The nanoseconds that a call may take in addition.
 const LEEWAY: f64 = 25.0;
 
+/// The most time that a call may take, as a multiple of its time at half the size. If the time were
+/// in proportion to the square of the size, it would be 4 times as long.
+pub const MOST_GROWTH: f64 = 2.5;
+
 /// The least times of the steps, in nanoseconds.
 pub struct Times {
     call: f64,
+    half_call: f64,
     archived: Option<f64>,
     pass: f64,
 }
@@ -45,6 +50,12 @@ impl Times {
     /// Returns the time of the call as a multiple of that of a pass.
     pub fn passes(&self) -> f64 {
         self.call / self.pass
+    }
+
+    /// Returns the time of the call as a multiple of its time at half the size. A call that takes
+    /// less than a millisecond has no growth.
+    pub fn growth(&self) -> Option<f64> {
+        (self.call >= LEAST_TIME).then(|| self.call / self.half_call)
     }
 
     /// Returns the time of the call as a multiple of that of the library's, if it has the call.
@@ -94,13 +105,16 @@ impl Timed {
     }
 }
 
-/// Measures the steps of a call. They take turns, so that a load of the machine slows all of them.
-pub fn least_times(work: Work) -> Times {
+/// Measures the steps of a call, and the call at half the size. They take turns, so that a load of
+/// the machine slows all of them.
+pub fn least_times(work: Work, half_call: Step) -> Times {
     let mut call = Timed::new(work.call);
+    let mut half_call = Timed::new(half_call);
     let mut archived = work.archived.map(Timed::new);
     let mut pass = Timed::new(work.pass);
     for _ in 0..ROUNDS {
         call.measure();
+        half_call.measure();
         if let Some(archived) = &mut archived {
             archived.measure();
         }
@@ -108,6 +122,7 @@ pub fn least_times(work: Work) -> Times {
     }
     Times {
         call: call.least,
+        half_call: half_call.least,
         archived: archived.map(|archived| archived.least),
         pass: pass.least,
     }

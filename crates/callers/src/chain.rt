@@ -1,0 +1,115 @@
+//! Errors with their causes, to JSON values and back.
+
+use crate::outcome::Outcome;
+use run_events::chain::{FromValueError, SerializableError};
+use serde_json::Value;
+use std::alloc::{AllocError, Global};
+
+/// The text of the value of the known error, which has two causes.
+const KNOWN: &str = r#"{"message":"m","causes":["cause 0","cause 1"]}"#;
+
+/// Texts of values that are not errors, each with the reason.
+const OTHER: [(&str, FromValueError); 5] = [
+    ("[]", FromValueError::NotAnObject),
+    ("{}", FromValueError::MessageMissing),
+    (r#"{"message":null}"#, FromValueError::MessageNotText),
+    (
+        r#"{"message":"m","causes":null}"#,
+        FromValueError::CausesNotAList,
+    ),
+    (
+        r#"{"message":"m","causes":["a",1]}"#,
+        FromValueError::CauseNotText { index: 1 },
+    ),
+];
+
+/// The number of causes of a long error. If a comparison or a drop called itself for each cause,
+/// the stack would overflow.
+const MANY: u32 = 200_000;
+
+/// Returns this many causes, which all differ.
+fn causes(alloc: Global, count: u32) -> Result<Vec<String>, AllocError> {
+    let mut causes = Vec::new(alloc);
+    for number in 0..count {
+        causes.push(format!(in alloc; "cause {number}")?)?;
+    }
+    Ok(causes)
+}
+
+/// Returns the error with message `m` and this many causes.
+pub(crate) fn error(alloc: Global, count: u32) -> Result<SerializableError, AllocError> {
+    let causes = causes(alloc, count)?;
+    SerializableError::from_message_and_causes(alloc, String::from_str(alloc, "m")?, causes)
+}
+
+/// Returns true if an error has the message and the first cause of the known one.
+fn is_known(error: &SerializableError) -> bool {
+    match error.source() {
+        Some(cause) => error.message() == "m" && cause.message() == "cause 0",
+        None => false,
+    }
+}
+
+/// Returns the value of a JSON text.
+fn value_of(alloc: Global, text: &str) -> Result<Value, AllocError> {
+    Value::from_str(alloc, text).map_err(|_| AllocError)
+}
+
+pub(crate) fn from_message_and_causes(alloc: Global) -> Result<Outcome, AllocError> {
+    let causes = causes(alloc, 2)?;
+    let message = String::from_str(alloc, "m")?;
+    Ok(
+        match SerializableError::from_message_and_causes(alloc, message, causes) {
+            Ok(error) => Outcome::RightAnswer.only_if(is_known(&error)),
+            Err(AllocError) => Outcome::OutOfMemory,
+        },
+    )
+}
+
+pub(crate) fn to_value(alloc: Global) -> Result<Outcome, AllocError> {
+    let error = error(alloc, 2)?;
+    let known = value_of(alloc, KNOWN)?;
+    Ok(match error.to_value(alloc) {
+        Ok(value) => Outcome::RightAnswer.only_if(value == known),
+        Err(AllocError) => Outcome::OutOfMemory.only_if(is_known(&error)),
+    })
+}
+
+pub(crate) fn from_value(alloc: Global) -> Result<Outcome, AllocError> {
+    let value = value_of(alloc, KNOWN)?;
+    Ok(match SerializableError::from_value(alloc, &value) {
+        Ok(error) => Outcome::RightAnswer.only_if(is_known(&error)),
+        Err(FromValueError::OutOfMemory) => Outcome::OutOfMemory,
+        Err(_) => Outcome::WrongAnswer,
+    })
+}
+
+/// Returns true if the value of a text is refused with this reason.
+fn is_refused(alloc: Global, text: &str, wanted: FromValueError) -> Result<bool, AllocError> {
+    let value = value_of(alloc, text)?;
+    Ok(match SerializableError::from_value(alloc, &value) {
+        Ok(_) => false,
+        Err(refusal) => refusal == wanted,
+    })
+}
+
+/// Reads values that are not errors, which takes no memory.
+pub(crate) fn from_other_values(alloc: Global) -> Result<Outcome, AllocError> {
+    let mut are_refused = true;
+    for (text, wanted) in OTHER {
+        let is_refused = is_refused(alloc, text, wanted)?;
+        are_refused = are_refused && is_refused;
+    }
+    Ok(Outcome::RightAnswer.only_if(are_refused))
+}
+
+/// Makes a long error, writes it as a value, and reads it from the value.
+pub(crate) fn long_error(alloc: Global) -> Result<Outcome, AllocError> {
+    let longer = error(alloc, MANY + 1)?;
+    let error = error(alloc, MANY)?;
+    let value = error.to_value(alloc)?;
+    Ok(match SerializableError::from_value(alloc, &value) {
+        Ok(read) => Outcome::RightAnswer.only_if(read == error && read != longer),
+        Err(_) => Outcome::WrongAnswer,
+    })
+}
