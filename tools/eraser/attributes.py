@@ -11,10 +11,11 @@ ORDER = ("Clone", "Copy", "Debug", "Default", "PartialEq", "Eq", "PartialOrd", "
 def with_attributes(text, name):
     """Returns the text of the file `name` with the attributes of its types and functions."""
     source = Source(text, name)
-    is_layer = PACKAGE_OF[name.split("/")[0]] == LAYER
+    crate = name.split("/")[0]
+    is_layer = PACKAGE_OF[crate] == LAYER
     for i in source.code:
         if source.text[i] in ("struct", "enum") and source.is_name(source.after(i)):
-            _on_type(source, i, is_layer)
+            _on_type(source, i, crate)
     if is_layer:
         for function in functions_of(source):
             _on_function(source, function)
@@ -33,20 +34,20 @@ def refuse_unused_rows(texts, rows=(*serde.SERDE, *serde.SERDE_OF_VARIANTS)):
             raise Refused(f"the table of serde has a row for a type that is not there: {row}")
 
 
-def _on_type(source, i, is_layer):
-    """Gives the type that is declared at `i` its derives."""
+def _on_type(source, i, crate):
+    """Gives the type of this crate that is declared at `i` its derives."""
+    is_layer = PACKAGE_OF[crate] == LAYER
     name = source.at(source.after(i))
     first = _first_word(source, i)
     derive, words = _derive(source, first)
+    if crate in types.DEBUG_OF_ALL and "Debug" in words:
+        source.refuse(i, "`Debug` is derived in a crate whose types get it from the eraser")
     has_drop = "Drop" in words
     words = [word for word in words if word != "Drop" and word not in types.REMOVED_DERIVES.get(name, ())]
     words += [word for word in types.ADDED_DERIVES.get(name, ()) if word not in words]
-    is_generic = _is_generic(source, i)
-    if has_drop and not is_generic and name not in types.NO_CLONE and "Clone" not in words:
+    if has_drop and not _is_generic(source, i) and name not in types.NO_CLONE and "Clone" not in words:
         words.append("Clone")
-    is_public = source.at(first) == "pub" and source.at(source.after(first)) != "("
-    needs_debug = is_layer and is_public and not is_generic and not _implements(source, "Debug", name)
-    if needs_debug and "Debug" not in words:
+    if _gets_debug(source, i, first, crate) and "Debug" not in words:
         words.append("Debug")
     if name in types.NO_DEBUG:
         words.remove("Debug")
@@ -55,6 +56,15 @@ def _on_type(source, i, is_layer):
         _set_serde(source, i, first, name)
     if name in types.CRATE_FIELDS:
         _open_fields(source, i)
+
+
+def _gets_debug(source, i, first, crate):
+    """Returns true for each type of some crates, and for the public types of the layer that need no text of their own."""
+    if crate in types.DEBUG_OF_ALL:
+        return True
+    is_public = source.at(first) == "pub" and source.at(source.after(first)) != "("
+    is_by_hand = _implements(source, "Debug", source.at(source.after(i)))
+    return PACKAGE_OF[crate] == LAYER and is_public and not _is_generic(source, i) and not is_by_hand
 
 
 def _first_word(source, i):

@@ -1,4 +1,9 @@
 """Derives, attributes and method names that types have only in Rust."""
+from .table import PACKAGES, RUN
+
+# Crates whose types all have `Debug` in Rust, and none in their sources: a derive costs seconds of each check, and
+# promises nothing.
+DEBUG_OF_ALL = PACKAGES[RUN]
 
 # Derives that a type has in Rust in addition to those of its source: users compare these, or keep them in maps.
 EQUAL = ("PartialEq", "Eq")
@@ -31,6 +36,17 @@ ADDED_DERIVES = {
     "UnitTerminateReason": EQUAL,
     "OpenSuites": ("Clone",),
     "Suite": ("Clone",),
+    "CargoFailure": EQUAL,
+    "Event": EQUAL,
+    "Finish": EQUAL,
+    "ProgramEnd": EQUAL,
+    "RunEnd": EQUAL,
+    "RunError": EQUAL,
+    "RunNumbers": EQUAL,
+    "SaidNumbers": ("Default",) + EQUAL,
+    "SuiteEnd": EQUAL,
+    "SuiteKey": EQUAL,
+    "TestDetails": EQUAL,
 }
 
 # Derives that a type does not have: a source that is read must not be copied, and a description has 72 bytes.
@@ -39,9 +55,9 @@ REMOVED_DERIVES = {"MemorySource": ("Copy",), "UnitErrorDescription": ("Copy",)}
 # Types that cannot be cloned, since they borrow what they write to exclusively.
 NO_CLONE = ("MemorySink",)
 
-# Types whose `Debug` is written by hand: a derived one would call itself for each cause of a chain, or would write text
-# as numbers or twice.
-NO_DEBUG = ("ByteSubslice", "ChildSingleOutput", "SerializableError")
+# Types whose `Debug` is written by hand: a derived one would call itself for each cause of a chain, would write text
+# as numbers or twice, or would show private fields.
+NO_DEBUG = ("ByteSubslice", "ChildSingleOutput", "ProgramRun", "SerializableError", "SuiteNames", "TestRun")
 
 # Types to which cases or fields may be added, and the attribute that says so: those of which nextest says so, whose
 # cases nextest's own code matches without an arm for others, and three that nextest does not have.

@@ -9,7 +9,7 @@ use crate::event::{CargoFailure, Event, SuiteEnd, SuiteKey, TestDetails, TestRes
 use std::alloc::{AllocError, Global};
 
 /// An event that has its texts. An [`Event`] borrows them.
-#[derive(Debug, Drop)]
+#[derive(Drop)]
 pub(crate) enum Content {
     /// A suite starts.
     SuiteStarted {
@@ -60,7 +60,7 @@ pub(crate) enum Content {
 }
 
 /// The key of a suite.
-#[derive(Debug, Drop)]
+#[derive(Drop)]
 pub(crate) struct KeyTexts {
     package: String,
     binary: String,
@@ -68,7 +68,7 @@ pub(crate) struct KeyTexts {
 }
 
 /// The last line of a suite.
-#[derive(Debug, Drop)]
+#[derive(Drop)]
 pub(crate) struct LastLine {
     key: Option<KeyTexts>,
     failed_verdict: bool,
@@ -80,7 +80,7 @@ pub(crate) struct LastLine {
 }
 
 /// The end of a test.
-#[derive(Debug, Drop)]
+#[derive(Drop)]
 pub(crate) struct TestEnd {
     name: String,
     result: TestResult,

@@ -7,7 +7,7 @@ use std::fmt;
 
 /// The key of a suite: the crate and the test binary that cargo nextest names in the lines of the suite. It
 /// is displayed as `CRATE::BINARY`. In a stress run `@stress-N` follows.
-#[derive(Clone, Copy, Debug, PartialEq, Eq)]
+#[derive(Clone, Copy)]
 pub struct SuiteKey<'a> {
     /// The name of the crate.
     pub package: &'a str,
@@ -33,7 +33,7 @@ impl fmt::Display for SuiteKey<'_> {
 
 /// The last line of a suite. A number of tests is `None` if the line does not have it, or if it needs more than 32
 /// bits.
-#[derive(Clone, Copy, Debug, PartialEq, Eq)]
+#[derive(Clone, Copy)]
 pub struct SuiteEnd<'a> {
     /// The key of the suite, if it has one.
     pub key: Option<SuiteKey<'a>>,
@@ -58,7 +58,7 @@ pub struct SuiteEnd<'a> {
 }
 
 /// The result of a test, from the line of its end.
-#[derive(Clone, Copy, Debug, PartialEq, Eq)]
+#[derive(Clone, Copy, PartialEq, Eq)]
 pub enum TestResult {
     /// The test passed.
     Ok,
@@ -71,7 +71,7 @@ pub enum TestResult {
 }
 
 /// The output, the messages and the time in the line of a test's end.
-#[derive(Clone, Copy, Debug, PartialEq, Eq)]
+#[derive(Clone, Copy)]
 pub struct TestDetails<'a> {
     /// The output of the test, if it was captured. Standard output and standard error are one text.
     pub stdout: Option<&'a str>,
@@ -87,7 +87,7 @@ pub struct TestDetails<'a> {
 }
 
 /// The event of a line.
-#[derive(Clone, Copy, Debug, PartialEq, Eq)]
+#[derive(Clone, Copy)]
 pub enum Event<'a> {
     /// A suite starts.
     SuiteStarted {
@@ -173,7 +173,7 @@ pub enum Event<'a> {
 }
 
 /// The failures that cargo and nextest report.
-#[derive(Clone, Copy, Debug, PartialEq, Eq)]
+#[derive(Clone, Copy)]
 pub enum CargoFailure {
     /// A crate could not be compiled, or its build script failed. A failed test is never the cause.
     Build,

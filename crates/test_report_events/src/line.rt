@@ -23,7 +23,7 @@ use serde_json::Value;
 use std::alloc::{AllocError, Global};
 
 /// A parsed line of a test run.
-#[derive(Debug, Drop)]
+#[derive(Drop)]
 pub struct Line {
     /// The print in front of the event, if there is one.
     before: Option<Content>,

@@ -15,7 +15,7 @@ use std::alloc::{AllocError, Global};
 const NAMELESS: &str = "program";
 
 /// How a program or a command ended.
-#[derive(Clone, Copy, Debug, PartialEq, Eq)]
+#[derive(Clone, Copy)]
 pub enum ProgramEnd {
     /// It ended with this exit status. On some systems a status may be negative.
     Status(i64),
@@ -25,7 +25,7 @@ pub enum ProgramEnd {
 }
 
 /// A test program that starts, or rustdoc, which runs documentation tests.
-#[derive(Debug, Drop)]
+#[derive(Drop)]
 pub struct ProgramStart {
     /// The name of its suites: the one that the line has; or else `PACKAGE (doc tests)`, if it runs documentation
     /// tests; or else the target, or the file name of its path.
@@ -43,7 +43,7 @@ pub struct ProgramStart {
 
 /// What a line says of a test program, or of the command that runs all of them. These lines have the types `program`
 /// and `command`; `test-report` writes them when it runs a command.
-#[derive(Debug, Drop)]
+#[derive(Drop)]
 pub enum ProgramLine {
     /// A program starts.
     ProgramStarted(ProgramStart),

@@ -31,7 +31,7 @@ const AFTER_SIGINT: i64 = 130;
 const AFTER_SIGTERM: i64 = 143;
 
 /// A program that runs.
-#[derive(Debug, Drop)]
+#[derive(Drop)]
 pub(crate) struct Program {
     /// The name of its suites.
     name: String,
@@ -50,7 +50,7 @@ pub(crate) struct Program {
 }
 
 /// How a program ended.
-#[derive(Debug, Drop)]
+#[derive(Drop)]
 pub(crate) struct Over {
     /// Its status, or the signal that ended it.
     pub(crate) end: ProgramEnd,

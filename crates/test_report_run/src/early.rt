@@ -10,7 +10,7 @@ use std::collections::BTreeSet;
 use test_report_events::program::ProgramEnd;
 
 /// What is known when all that is open in a run ends early.
-#[derive(Debug, Drop)]
+#[derive(Drop)]
 pub struct EarlyEnd {
     /// How the program ended whose tests run, if a line says so.
     pub end: Option<ProgramEnd>,
@@ -24,7 +24,7 @@ pub struct EarlyEnd {
 }
 
 /// How a suite ends early.
-#[derive(Debug, Drop)]
+#[derive(Drop)]
 pub(crate) struct Ending {
     /// How its program ended, if that is known.
     pub(crate) end: Option<ProgramEnd>,

@@ -6,7 +6,7 @@ use run_events_stats::stats::CounterFull;
 use std::alloc::{AllocError, AllocFailed};
 
 /// Why a run cannot be counted.
-#[derive(Clone, Copy, Debug, PartialEq, Eq)]
+#[derive(Clone, Copy)]
 pub enum RunError {
     /// A number of the run does not fit its counter: a number of tests, suites, prints, headings, or failed tests and
     /// disagreements does not fit `usize`, or a sum of numbers in last lines of suites does not fit 128 bits.

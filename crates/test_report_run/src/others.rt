@@ -17,7 +17,7 @@ use std::alloc::{AllocError, Global};
 const CAUSED_BY: &[u8] = b"Caused by:";
 
 /// The place of a print of a file.
-#[derive(Clone, Copy, Debug, Default, PartialEq, Eq)]
+#[derive(Clone, Copy, Default)]
 pub(crate) struct PrintPlace {
     /// The number of headings and failures that came before it.
     part: usize,
@@ -27,7 +27,7 @@ pub(crate) struct PrintPlace {
 }
 
 /// The place of an event of a file among its other lines.
-#[derive(Clone, Copy, Debug, Default, PartialEq, Eq)]
+#[derive(Clone, Copy, Default)]
 pub(crate) struct EventPlace {
     /// The number of causes that came before it.
     causes: usize,
@@ -47,7 +47,7 @@ pub(crate) struct Cause {
 }
 
 /// How far the search for the cause of the last failure is.
-#[derive(Clone, Copy, Debug, PartialEq, Eq)]
+#[derive(Clone, Copy, PartialEq, Eq)]
 enum Stage {
     /// There is nothing to search for: no failure came, the cause is known, or a heading came after the failure.
     Over,

@@ -105,7 +105,7 @@ pub struct TestRun {
 }
 
 /// The end of a run.
-#[derive(Debug, Drop)]
+#[derive(Drop)]
 pub struct Finished {
     /// The notes that the end of the last file makes known.
     pub notes: Vec<Note>,

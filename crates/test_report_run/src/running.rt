@@ -14,7 +14,7 @@ use crate::running::names::NameOrders;
 use std::collections::{BTreeMap, BTreeSet};
 
 /// A test that is running.
-#[derive(Debug, Drop)]
+#[derive(Drop)]
 pub struct RunningTest {
     /// The name in the line of its start.
     pub(crate) name: String,
@@ -30,7 +30,7 @@ pub struct RunningTest {
 }
 
 /// The tests that are running, in the order in which they started.
-#[derive(Debug, Drop)]
+#[derive(Drop)]
 pub struct Running {
     /// The tests, by the number of tests that started before each.
     tests: BTreeMap<usize, RunningTest>,

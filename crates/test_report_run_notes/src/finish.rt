@@ -14,7 +14,7 @@ use run_events_results::view::FinishedTest;
 const HARNESS_FAILED: i32 = 101;
 
 /// How a test finished.
-#[derive(Clone, Copy, Debug, PartialEq, Eq)]
+#[derive(Clone, Copy)]
 pub enum Finish {
     /// It passed, or is flaky and counts as passed.
     Passed,

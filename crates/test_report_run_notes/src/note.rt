@@ -11,7 +11,7 @@ use test_report_events::event::TestResult;
 use test_report_events::program::ProgramEnd;
 
 /// A fact about a run that a line, or the end of a file, makes known.
-#[derive(Debug, Drop)]
+#[derive(Drop)]
 pub enum Note {
     /// A test passed, failed or was skipped.
     Test(TestNote),
@@ -32,7 +32,7 @@ pub enum Note {
 }
 
 /// A test, and whether it passed, failed or was skipped.
-#[derive(Debug, Drop)]
+#[derive(Drop)]
 pub struct TestNote {
     /// The name of the suite of the test, or `None` if the test started outside of a suite. The notes of a suite
     /// share it.
@@ -61,7 +61,7 @@ pub struct TestNote {
 }
 
 /// The outcome of a test.
-#[derive(Debug, Drop)]
+#[derive(Drop)]
 pub enum TestOutcome {
     /// The test passed. It is flaky if it took several attempts.
     Passed {
@@ -84,7 +84,7 @@ pub enum TestOutcome {
 }
 
 /// How a test failed, with the texts that its lines have about it.
-#[derive(Debug, Drop)]
+#[derive(Drop)]
 pub struct Failure {
     /// The kind of the failure.
     pub kind: FailureKind,
@@ -100,7 +100,7 @@ pub struct Failure {
 }
 
 /// The kinds of failures.
-#[derive(Debug, Drop)]
+#[derive(Drop)]
 pub enum FailureKind {
     /// A line says that the test failed.
     Failed,
@@ -119,7 +119,7 @@ pub enum FailureKind {
 }
 
 /// How a test crashed.
-#[derive(Debug, Drop)]
+#[derive(Drop)]
 pub struct Crash {
     /// The number of tests of the suite that crashed then, including this one.
     pub running: usize,
@@ -147,7 +147,7 @@ pub struct Crash {
 
 /// A contradiction between lines of a run. A damaged line that says a failure, a file without an event of a
 /// harness, and the end of a command that failed count as contradictions, too.
-#[derive(Debug, Drop)]
+#[derive(Drop)]
 pub enum Disagreement {
     /// A suite has no last line, and none of its tests crashed.
     EndedEarly {
@@ -225,7 +225,7 @@ pub enum Disagreement {
 }
 
 /// What is wrong with the lines of programs.
-#[derive(Debug, Drop)]
+#[derive(Drop)]
 pub enum ProgramFault {
     /// A program ended with a status other than 0 or by a signal, and nothing that became known since it started says
     /// why.
@@ -260,7 +260,7 @@ pub enum ProgramFault {
 }
 
 /// A failure that cargo or nextest reports.
-#[derive(Debug, Drop)]
+#[derive(Drop)]
 pub struct CargoReport {
     /// The line of the failure, as a terminal shows it.
     pub line: String,
@@ -279,7 +279,7 @@ pub struct CargoReport {
 }
 
 /// How a command ended.
-#[derive(Debug, Drop)]
+#[derive(Drop)]
 pub enum CommandEnd {
     /// The command could not be started.
     NotStarted {
@@ -310,7 +310,7 @@ pub enum CommandEnd {
 }
 
 /// The numbers and the verdict in the last line of a suite. If it has several, their numbers are added.
-#[derive(Clone, Copy, Debug, Default, PartialEq, Eq)]
+#[derive(Clone, Copy)]
 pub struct SaidNumbers {
     /// True if a line says that the suite failed.
     pub failed_verdict: bool,
@@ -323,7 +323,7 @@ pub struct SaidNumbers {
 }
 
 /// The number of tests of a suite that did not run.
-#[derive(Debug, Drop)]
+#[derive(Drop)]
 pub struct NotRun {
     /// The name of the suite.
     pub suite: Rc<String>,
@@ -336,7 +336,7 @@ pub struct NotRun {
 }
 
 /// The numbers of a suite that is over.
-#[derive(Debug, Drop)]
+#[derive(Drop)]
 pub struct SuiteNote {
     /// The name of the suite, or `None` for the tests that started outside of a suite.
     pub name: Option<Rc<String>>,
@@ -358,7 +358,7 @@ pub struct SuiteNote {
 }
 
 /// The sums and the outcome of a whole run.
-#[derive(Clone, Copy, Debug, PartialEq, Eq)]
+#[derive(Clone, Copy)]
 pub struct RunEnd {
     /// The statistics of the finished tests of all suites.
     pub stats: RunStats,

@@ -11,7 +11,7 @@ use crate::suite::Suite;
 use test_report_run_notes::note::{RunEnd, failed_count};
 
 /// The numbers of tests of a run up to now. A number that does not fit is the greatest that does.
-#[derive(Clone, Copy, Debug, PartialEq, Eq)]
+#[derive(Clone, Copy)]
 pub struct RunNumbers {
     /// The number of tests that ended. It counts a test without a line of its end when its suite is over.
     pub ended: u128,
@@ -25,7 +25,7 @@ pub struct RunNumbers {
 }
 
 /// The test that has been running longest.
-#[derive(Clone, Copy, Debug)]
+#[derive(Clone, Copy)]
 pub struct FirstRunning<'a> {
     /// The name of the suite of the test, or `None` if the test started outside of a suite.
     pub suite: Option<&'a str>,

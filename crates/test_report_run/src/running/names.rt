@@ -8,7 +8,7 @@ use std::alloc::{AllocError, Global};
 use std::collections::{BTreeMap, BTreeSet};
 
 /// The numbers of the running tests of each name. A name without a running test is not in the map.
-#[derive(Debug, Drop)]
+#[derive(Drop)]
 pub(crate) struct NameOrders {
     orders: BTreeMap<String, BTreeSet<usize>>,
 }

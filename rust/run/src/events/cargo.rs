@@ -8,7 +8,7 @@ use crate::events::time::are_digits;
 const HASH_DIGITS: usize = 16;
 
 /// A heading of cargo: it names what runs next.
-#[derive(Clone, Copy)]
+#[derive(Clone, Copy, Debug)]
 pub(crate) enum Heading<'a> {
     /// The documentation tests of a crate: `Doc-tests NAME`.
     DocTests { crate_name: &'a str },
@@ -45,7 +45,7 @@ impl<'a> Heading<'a> {
 }
 
 /// A line of cargo or nextest that a report needs.
-#[derive(Clone, Copy)]
+#[derive(Clone, Copy, Debug)]
 pub(crate) enum CargoLine<'a> {
     Heading(Heading<'a>),
     Failure(CargoFailure),

@@ -9,7 +9,7 @@ use serde_json::Value;
 const GREATEST_COUNT: u64 = 0xFFFF_FFFF;
 
 /// The members of an object that lines of tests have. One pass over the object finds all of them.
-#[derive(Clone, Copy)]
+#[derive(Clone, Copy, Debug)]
 pub(crate) struct Members<'a> {
     object: &'a Value,
     kind: Option<&'a Value>,

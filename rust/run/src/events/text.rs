@@ -6,7 +6,7 @@ use crate::events::content::Content;
 use crate::events::plain::{line_text, plain_text};
 
 /// A heading or a failure at the end of a text, and the text in front of it.
-#[derive(Clone, Copy)]
+#[derive(Clone, Copy, Debug)]
 struct CargoEnd<'a> {
     front: &'a str,
     text: &'a str,

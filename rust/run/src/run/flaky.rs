@@ -7,7 +7,7 @@ use crate::run::suite::FlakyTest;
 use std::collections::BTreeMap;
 
 /// The tests of a suite that passed after several attempts, in the order in which they started.
-#[derive(Clone)]
+#[derive(Clone, Debug)]
 pub(crate) struct FlakyTests {
     /// The tests. The key of a test is the number of tests that started before it, and the number of flaky tests
     /// that ended before it.

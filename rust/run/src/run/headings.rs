@@ -4,13 +4,13 @@
 use std::collections::BTreeMap;
 
 /// The headings of a file: the paths that each name had.
-#[derive(Clone)]
+#[derive(Clone, Debug)]
 pub(crate) struct Headings {
     names: BTreeMap<String, Paths>,
 }
 
 /// The paths that one name had, each with its number. Headings of documentation tests have no path.
-#[derive(Clone)]
+#[derive(Clone, Debug)]
 struct Paths {
     numbers: BTreeMap<Option<String>, usize>,
 }

@@ -4,7 +4,7 @@
 use crate::notes::note::SaidNumbers;
 
 /// The numbers of tests of a suite before its last line is looked at.
-#[derive(Clone, Copy)]
+#[derive(Clone, Copy, Debug)]
 pub(crate) struct Tally {
     /// The number of tests that the suite announced.
     pub(crate) test_count: Option<u128>,
@@ -49,7 +49,7 @@ impl Tally {
 }
 
 /// The tests that the last line of a suite explains.
-#[derive(Clone, Copy)]
+#[derive(Clone, Copy, Debug)]
 pub(crate) struct Explanation {
     /// The number of skipped tests that have no line.
     pub(crate) nameless: u128,

@@ -9,7 +9,7 @@ pub(crate) const MOST_BYTES: usize = 16_384;
 
 /// The longest end of the lines that were added, so that all its lines together, with a line feed between two
 /// of them, have at most [`MOST_BYTES`] bytes. Of a longer line its first bytes are kept.
-#[derive(Clone)]
+#[derive(Clone, Debug)]
 pub(crate) struct LongestEnd {
     lines: VecDeque<String>,
 

@@ -9,7 +9,7 @@ use crate::run::suite::Suite;
 
 /// The open suites in the order of their first lines. They have the numbers of their first lines, and are found by
 /// their numbers and their keys.
-#[derive(Clone)]
+#[derive(Clone, Debug)]
 pub(crate) struct OpenSuites {
     /// The suites. They are boxed because a suite that ends is removed from among them, which moves all later
     /// ones.

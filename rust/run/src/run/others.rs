@@ -9,7 +9,7 @@ use crate::run::prints::Prints;
 const CAUSED_BY: &[u8] = b"Caused by:";
 
 /// The place of a print of a file.
-#[derive(Clone, Copy, Debug, Default, PartialEq, Eq)]
+#[derive(Clone, Copy, Debug, Default)]
 pub(crate) struct PrintPlace {
     /// The number of headings and failures that came before it.
     part: usize,
@@ -19,7 +19,7 @@ pub(crate) struct PrintPlace {
 }
 
 /// The place of an event of a file among its other lines.
-#[derive(Clone, Copy, Debug, Default, PartialEq, Eq)]
+#[derive(Clone, Copy, Debug, Default)]
 pub(crate) struct EventPlace {
     /// The number of causes that came before it.
     causes: usize,
@@ -29,7 +29,7 @@ pub(crate) struct EventPlace {
 }
 
 /// The cause of a failure that cargo reported.
-#[derive(Clone)]
+#[derive(Clone, Debug)]
 pub(crate) struct Cause {
     /// The number of headings that came before it.
     headings: usize,
@@ -52,7 +52,7 @@ enum Stage {
 }
 
 /// What is kept of the lines of a file that are no events of a harness.
-#[derive(Clone)]
+#[derive(Clone, Debug)]
 pub(crate) struct Others {
     /// The prints before the first heading or failure of cargo, and between two of them.
     past: Vec<Prints>,

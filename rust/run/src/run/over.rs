@@ -17,7 +17,7 @@ use crate::run::suite::{FlakyTest, OverTest, Suite};
 use std::rc::Rc;
 
 /// The numbers of a suite that its finished tests do not give.
-#[derive(Clone, Copy)]
+#[derive(Clone, Copy, Debug)]
 pub(crate) struct Rest {
     /// The number of skipped tests.
     pub(crate) skipped: u128,

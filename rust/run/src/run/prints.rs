@@ -9,7 +9,7 @@ use crate::run::longest_end::LongestEnd;
 const LAST_PRINTS: usize = 3;
 
 /// A print that is not blank.
-#[derive(Clone)]
+#[derive(Clone, Debug)]
 pub(crate) struct LastPrint {
     /// The number of prints that came before it.
     place: usize,
@@ -19,7 +19,7 @@ pub(crate) struct LastPrint {
 }
 
 /// Prints that come one after the other: the longest end of them that fits, and the last three that are not blank.
-#[derive(Clone)]
+#[derive(Clone, Debug)]
 pub(crate) struct Prints {
     count: usize,
     kept: LongestEnd,

@@ -34,7 +34,7 @@ pub(crate) fn time_sum(a: Option<u64>, b: Option<u64>) -> Option<u64> {
 }
 
 /// The numbers and the verdict in the last lines of a suite. The numbers of several lines are added.
-#[derive(Clone, Copy, Default)]
+#[derive(Clone, Copy, Debug, Default)]
 pub(crate) struct Said {
     pub(crate) failed_verdict: bool,
     pub(crate) passed: Option<u128>,

@@ -13,7 +13,7 @@ use deodarsieve::{CancelReason, RunStats};
 use std::rc::Rc;
 
 /// A test that is over, without its outcome.
-#[derive(Clone)]
+#[derive(Clone, Debug)]
 pub(crate) struct OverTest {
     /// The name of the test, without the number of attempts.
     pub(crate) name: String,
@@ -49,7 +49,7 @@ impl OverTest {
 }
 
 /// A test that passed after several attempts. The last line of its suite may still count it as failed.
-#[derive(Clone)]
+#[derive(Clone, Debug)]
 pub(crate) struct FlakyTest {
     pub(crate) test: OverTest,
 
@@ -61,7 +61,7 @@ pub(crate) struct FlakyTest {
 }
 
 /// An open suite, or the tests of a file that start outside of a suite.
-#[derive(Clone)]
+#[derive(Clone, Debug)]
 pub(crate) struct Suite {
     /// The number, the key and the name of the suite.
     pub(crate) name: SuiteName,

@@ -5,7 +5,7 @@ use std::rc::Rc;
 
 /// The number and the texts that can name a suite, and the name that they give it. The name is made once, and the
 /// notes of the suite share it.
-#[derive(Clone)]
+#[derive(Clone, Debug)]
 pub(crate) struct SuiteName {
     /// The number of the suite, from 1 on in the order of first lines, or `None` for the tests outside of a
     /// suite.

@@ -7,7 +7,7 @@ use crate::run::said::time_sum;
 use deodarsieve::{RunFailureStep, RunOutcome, RunStats};
 
 /// The sums over the suites that are over.
-#[derive(Clone, Copy)]
+#[derive(Clone, Copy, Debug)]
 pub(crate) struct Totals {
     end: RunEnd,
 }

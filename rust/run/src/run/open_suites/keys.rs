@@ -4,7 +4,7 @@
 use std::collections::BTreeMap;
 
 /// The numbers of the open suites by their keys. No two of them have the same key, and at most one has none.
-#[derive(Clone)]
+#[derive(Clone, Debug)]
 pub(crate) struct KeyNumbers {
     keys: BTreeMap<String, usize>,
 
