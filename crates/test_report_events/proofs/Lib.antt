@@ -2,6 +2,7 @@ mod FoundMembers
 mod Endings
 mod Escapes
 mod Events
+mod Failures
 mod Headings
 mod Keys
 mod LastAt

@@ -1,6 +1,6 @@
 //! Recognizes the lines of cargo and nextest that are not JSON.
 
-ghost use Rattle.std.specs.Prelude.{◌≡◌, ◌↔◌, ◌++◌, ◌&&◌, ℕ, List, IfOk, IsTrue, MatchOption, Option, None, codes, drop, length, option_map};
+ghost use Rattle.std.specs.Prelude.{◌≡◌, ◌↔◌, ◌++◌, ◌&&◌, ◌||◌, ℕ, List, IfOk, IsTrue, MatchOption, Option, None, codes, drop, length, option_map};
 ghost use Rattle.std.specs.Char.{is_ascii_hexdigit};
 ghost use Rattle.std.specs.List.{AllPass};
 ghost use Rattle.std.specs.String.{string_bytes};
@@ -260,25 +260,43 @@ fn begins(line: &str, front: &str) -> bool
 pub(crate) fn cargo_failure(line: &str) -> Option<CargoFailure>
     ensures { result ≡ spec.failure_of line.now }
 {
-    if begins(line, "error: could not compile ")
+    if reports_build(line) {
+        Some(CargoFailure::Build)
+    } else if reports_tests(line) {
+        Some(CargoFailure::Tests)
+    } else if begins(line, "error: test run failed") || reports_targets(line) {
+        Some(CargoFailure::Run)
+    } else {
+        None
+    }
+}
+
+/// Returns true for the errors of a crate that was not compiled and of a build script that failed.
+fn reports_build(line: &str) -> bool
+    ensures { result ≡ (spec.begins line.now (codes "error: could not compile ")
+        || (spec.begins line.now (codes "error: failed to run custom build command for ")
+        || spec.begins line.now (codes "error: build script logged errors"))) }
+{
+    begins(line, "error: could not compile ")
         || begins(line, "error: failed to run custom build command for ")
         || begins(line, "error: build script logged errors")
-    {
-        return Some(CargoFailure::Build);
-    }
-    if begins(line, "error: test failed")
+}
+
+/// Returns true for the errors of tests that failed and of tests that could not be run.
+fn reports_tests(line: &str) -> bool
+    ensures { result ≡ (spec.begins line.now (codes "error: test failed")
+        || (spec.begins line.now (codes "error: doctest failed")
+        || (spec.begins line.now (codes "error: bench failed")
+        || (spec.begins line.now (codes "error: no test target named ")
+        || (spec.begins line.now (codes "error: creating test list failed")
+        || spec.begins line.now (codes "error: setup script failed")))))) }
+{
+    begins(line, "error: test failed")
         || begins(line, "error: doctest failed")
         || begins(line, "error: bench failed")
         || begins(line, "error: no test target named ")
         || begins(line, "error: creating test list failed")
         || begins(line, "error: setup script failed")
-    {
-        return Some(CargoFailure::Tests);
-    }
-    if begins(line, "error: test run failed") || reports_targets(line) {
-        return Some(CargoFailure::Run);
-    }
-    None
 }
 
 /// Returns true for `error: N target failed:` and `error: N targets failed:`.

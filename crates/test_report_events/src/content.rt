@@ -2,7 +2,7 @@
 
 ghost use Rattle.std.specs.Prelude.{◌≡◌, IfOk, option_map, string_bytes};
 ghost use Rattle.test_report_events.specs.Content as kept;
-ghost use Rattle.test_report_events.specs.Event.{Prints, TestEnds, event_view, suite_end_view, test_end_view, text_of_key};
+ghost use Rattle.test_report_events.specs.Event.{CargoFails, HeadingLine, Prints, SuiteEnds, SuiteStarts, TestEnds, event_view, suite_end_view, test_end_view, text_of_key};
 
 use crate::cargo::CargoLine;
 use crate::event::{CargoFailure, Event, SuiteEnd, SuiteKey, TestDetails, TestResult};
@@ -96,11 +96,10 @@ impl Content {
         ensures { IfOk result (λ content. kept.content_event content ≡ event_view event.entry) }
     {
         match event {
-            Event::SuiteStarted { key, test_count } => Ok(Content::SuiteStarted {
-                key: key_texts(alloc, key)?,
-                test_count,
-            }),
-            Event::SuiteEnded(end) => Ok(Content::SuiteEnded(LastLine::of(alloc, end)?)),
+            Event::SuiteStarted { key, test_count } => Content::suite_started(
+                alloc, key, test_count,
+            ),
+            Event::SuiteEnded(end) => Content::suite_ended(alloc, end),
             Event::TestStarted { name } => Ok(Content::TestStarted {
                 name: String::from_str(alloc, name)?,
             }),
@@ -108,30 +107,104 @@ impl Content {
                 name,
                 result: outcome,
                 details,
-            } => Ok(Content::TestEnded(TestEnd::of(alloc, name, outcome, details)?)),
+            } => Content::test_ended(alloc, name, outcome, details),
             Event::TestSlow { name } => Ok(Content::TestSlow {
                 name: String::from_str(alloc, name)?,
             }),
             Event::Other => Ok(Content::Other),
-            Event::Heading { suite, path } => Ok(Content::Heading {
-                suite: String::from_str(alloc, suite)?,
-                path: owned(alloc, path)?,
-            }),
+            Event::Heading { suite, path } => Content::heading(alloc, suite, path),
             Event::CargoFailed {
                 failure,
                 line,
                 plain,
-            } => Ok(Content::Failure {
-                failure,
-                line: String::from_str(alloc, line)?,
-                plain: String::from_str(alloc, plain)?,
-            }),
-            Event::Print { line, plain } => Ok(Content::Print {
-                line: String::from_str(alloc, line)?,
-                plain: String::from_str(alloc, plain)?,
-            }),
+            } => Content::failure(alloc, failure, line, plain),
+            Event::Print { line, plain } => Content::print(alloc, line, plain),
             Event::Damaged { text } => Ok(Content::Damaged(String::from_str(alloc, text)?)),
         }
+    }
+
+    /// Returns the start of a suite with a copy of its texts.
+    fn suite_started(
+        alloc: Global,
+        key: Option<SuiteKey<'_>>,
+        test_count: Option<u64>,
+    ) -> Result<Content, AllocError>
+        ensures { IfOk result (λ content. kept.content_event content ≡ SuiteStarts (option_map text_of_key key.entry) test_count) }
+    {
+        Ok(Content::SuiteStarted {
+            key: key_texts(alloc, key)?,
+            test_count,
+        })
+    }
+
+    /// Returns the end of a suite with a copy of its texts.
+    fn suite_ended(alloc: Global, end: SuiteEnd<'_>) -> Result<Content, AllocError>
+        ensures { IfOk result (λ content. kept.content_event content ≡ SuiteEnds (suite_end_view end.entry)) }
+    {
+        Ok(Content::SuiteEnded(LastLine {
+            key: key_texts(alloc, end.key)?,
+            failed_verdict: end.failed_verdict,
+            passed: end.passed,
+            failed: end.failed,
+            ignored: end.ignored,
+            measured: end.measured,
+            time: end.time,
+        }))
+    }
+
+    /// Returns the end of a test with a copy of its texts.
+    fn test_ended(
+        alloc: Global,
+        name: &str,
+        outcome: TestResult,
+        details: TestDetails<'_>,
+    ) -> Result<Content, AllocError>
+        ensures { IfOk result (λ content. kept.content_event content ≡ TestEnds (test_end_view name.now outcome details.entry)) }
+    {
+        Ok(Content::TestEnded(TestEnd {
+            name: String::from_str(alloc, name)?,
+            result: outcome,
+            stdout: owned(alloc, details.stdout)?,
+            message: owned(alloc, details.message)?,
+            reason: owned(alloc, details.reason)?,
+            time: details.time,
+        }))
+    }
+
+    /// Returns a heading of cargo with a copy of its texts.
+    fn heading(alloc: Global, suite: &str, path: Option<&str>) -> Result<Content, AllocError>
+        ensures { IfOk result (λ content. kept.content_event content ≡ HeadingLine suite.now (option_map (λ path. path.now) path.entry)) }
+    {
+        Ok(Content::Heading {
+            suite: String::from_str(alloc, suite)?,
+            path: owned(alloc, path)?,
+        })
+    }
+
+    /// Returns a failure that cargo or nextest reports with a copy of its texts.
+    fn failure(
+        alloc: Global,
+        failure: CargoFailure,
+        line: &str,
+        plain: &str,
+    ) -> Result<Content, AllocError>
+        ensures { IfOk result (λ content. kept.content_event content ≡ CargoFails failure line.now plain.now) }
+    {
+        Ok(Content::Failure {
+            failure,
+            line: String::from_str(alloc, line)?,
+            plain: String::from_str(alloc, plain)?,
+        })
+    }
+
+    /// Returns a print with a copy of its texts.
+    pub(crate) fn print(alloc: Global, line: &str, plain: &str) -> Result<Content, AllocError>
+        ensures { IfOk result (λ content. kept.content_event content ≡ Prints line.now plain.now) }
+    {
+        Ok(Content::Print {
+            line: String::from_str(alloc, line)?,
+            plain: String::from_str(alloc, plain)?,
+        })
     }
 
     /// Returns the content of a line of cargo. `shown` is the text of the line, if it is a failure.
@@ -145,25 +218,11 @@ impl Content {
     {
         match says {
             CargoLine::Heading(heading) => Ok(Content::Heading {
-                suite: heading.suite(alloc)?,
                 path: owned(alloc, heading.path())?,
+                suite: heading.suite(alloc)?,
             }),
-            CargoLine::Failure(failure) => Ok(Content::Failure {
-                failure,
-                line: String::from_str(alloc, shown)?,
-                plain: String::from_str(alloc, text)?,
-            }),
+            CargoLine::Failure(failure) => Content::failure(alloc, failure, shown, text),
         }
-    }
-
-    /// Returns a print that is only a part of its line.
-    pub(crate) fn print(alloc: Global, text: &str) -> Result<Content, AllocError>
-        ensures { IfOk result (λ content. kept.content_event content ≡ Prints text.now text.now) }
-    {
-        Ok(Content::Print {
-            line: String::from_str(alloc, text)?,
-            plain: String::from_str(alloc, text)?,
-        })
     }
 
     /// Returns the event, which borrows its texts.
@@ -243,21 +302,6 @@ fn key_texts(alloc: Global, key: Option<SuiteKey<'_>>) -> Result<Option<KeyTexts
 }
 
 impl LastLine {
-    /// Returns the last line of a suite with a copy of its texts.
-    fn of(alloc: Global, end: SuiteEnd<'_>) -> Result<LastLine, AllocError>
-        ensures { IfOk result (λ line. kept.suite_end_of line ≡ suite_end_view end.entry) }
-    {
-        Ok(LastLine {
-            key: key_texts(alloc, end.key)?,
-            failed_verdict: end.failed_verdict,
-            passed: end.passed,
-            failed: end.failed,
-            ignored: end.ignored,
-            measured: end.measured,
-            time: end.time,
-        })
-    }
-
     /// Returns the end of the suite, which borrows its texts.
     fn end(&self) -> SuiteEnd<'_>
         ensures { suite_end_view result ≡ kept.suite_end_of self.now }
@@ -275,25 +319,6 @@ impl LastLine {
 }
 
 impl TestEnd {
-    /// Returns the end of a test with a copy of its texts.
-    fn of(
-        alloc: Global,
-        name: &str,
-        outcome: TestResult,
-        details: TestDetails<'_>,
-    ) -> Result<TestEnd, AllocError>
-        ensures { IfOk result (λ end. kept.end_of end ≡ test_end_view name.now outcome details.entry) }
-    {
-        Ok(TestEnd {
-            name: String::from_str(alloc, name)?,
-            result: outcome,
-            stdout: owned(alloc, details.stdout)?,
-            message: owned(alloc, details.message)?,
-            reason: owned(alloc, details.reason)?,
-            time: details.time,
-        })
-    }
-
     /// Returns the event, which borrows its texts.
     fn event(&self) -> Event<'_>
         ensures { event_view result ≡ TestEnds (kept.end_of self.now) }

@@ -1,10 +1,11 @@
 //! Parses a line of a test run.
 
-ghost use Rattle.std.specs.Prelude.{◌≡◌, ◌≤◌, ℕ, IfOk, MatchOption, Some, None, drop, length, option_map};
+ghost use Rattle.std.specs.Prelude.{◌≡◌, ◌<◌, ◌≤◌, ℕ, IfOk, MatchOption, Some, None, drop, length, option_map};
 ghost use Rattle.serde_json.specs.Data.{Data};
 ghost use Rattle.serde_json.specs.Read.{read};
 ghost use Rattle.serde_json.specs.View.{view};
 ghost use Rattle.test_report_events.specs.Content as kept;
+ghost use Rattle.test_report_events.specs.Damage.{IsDamage};
 ghost use Rattle.test_report_events.specs.Event.{EventView, event_view};
 ghost use Rattle.test_report_events.specs.Line.{EventSays, Holds, HoldsEvent, IsJson, IsPrint, LineSays, RestOf};
 ghost use Rattle.test_report_events.specs.Program.{TellsProgram, program_view};
@@ -57,7 +58,7 @@ impl Line {
             return event_line(alloc, bytes, 0, Event::TestStarted { name }, None);
         }
         match value_in(alloc, bytes)? {
-            Some((at, value)) => value_line(alloc, bytes, at, value),
+            Some((at, value)) => value_line(alloc, bytes, at, &value),
             None => text_line(alloc, bytes),
         }
     }
@@ -126,6 +127,23 @@ fn event_line(
             program,
         });
     }
+    line_with_front(alloc, bytes, at, content, program)
+}
+
+/// Returns the line whose event has this content and begins at an offset after text that is no event.
+fn line_with_front(
+    alloc: Global,
+    bytes: &[u8],
+    at: usize,
+    content: Content,
+    program: Option<ProgramLine>,
+) -> Result<Line, AllocError>
+    requires later { 0 < at }
+    requires holds { HoldsEvent bytes.now at (kept.content_event content) }
+    ensures says { IfOk result (λ line. LineSays bytes.now (kept.events_of line)) }
+    ensures rest { IfOk result (λ line. RestOf bytes.now (kept.rest_of line)) }
+    ensures tells { IfOk result (λ line. line.program ≡ program) }
+{
     let damage = damage_of(alloc, &bytes[..at])?;
     Ok(Line {
         before: None,
@@ -138,25 +156,25 @@ fn event_line(
 
 /// Returns the line with this content, which is no event of a test harness, and so says nothing of a program.
 fn other_line(
-    alloc: Global,
     bytes: &[u8],
     before: Option<Content>,
     content: Content,
-) -> Result<Line, AllocError>
+    damage: Option<Content>,
+) -> Line
     requires none { (at : ℕ) (e : EventView) → ¬ HoldsEvent bytes.now at e }
     requires says { EventSays bytes.now (option_map kept.content_event before) (kept.content_event content) }
-    ensures says { IfOk result (λ line. LineSays bytes.now (kept.events_of line)) }
-    ensures rest { IfOk result (λ line. RestOf bytes.now (kept.rest_of line)) }
-    ensures tells { IfOk result (λ line. line.program ≡ None) }
+    requires damaged { IsDamage bytes.now (option_map kept.content_event damage) }
+    ensures says { LineSays bytes.now (kept.events_of result) }
+    ensures rest { RestOf bytes.now (kept.rest_of result) }
+    ensures tells { result.program ≡ None }
 {
-    let damage = damage_of(alloc, bytes)?;
-    Ok(Line {
+    Line {
         before,
         content,
         damage,
         rest: Some(bytes.len()),
         program: None,
-    })
+    }
 }
 
 /// Parses bytes as JSON, and returns `None` if they are not JSON.
@@ -223,30 +241,35 @@ fn last_object(line: &[u8]) -> Option<usize>
 }
 
 /// Returns the line that has a JSON value from an offset on: an event, or a print if the value is no event.
-fn value_line(alloc: Global, bytes: &[u8], at: usize, value: Value) -> Result<Line, AllocError>
-    requires { Holds bytes.now at (view value) }
+fn value_line(alloc: Global, bytes: &[u8], at: usize, value: &Value) -> Result<Line, AllocError>
+    requires { Holds bytes.now at (view value.now) }
     ensures says { IfOk result (λ line. LineSays bytes.now (kept.events_of line)) }
     ensures rest { IfOk result (λ line. RestOf bytes.now (kept.rest_of line)) }
     ensures tells { IfOk result (λ line. TellsProgram bytes.now (kept.program_of line)) }
 {
-    let members = Members::of(&value);
+    let members = Members::of(value);
     let time = members.time_in(bytes);
     match members.event(time) {
         Some(event) => {
-            let program = ProgramLine::of(alloc, &value)?;
+            let program = ProgramLine::of(alloc, value)?;
             event_line(alloc, bytes, at, event, program)
         }
-        None => other_line(alloc, bytes, None, print_content(alloc, bytes)?),
+        None => print_line(alloc, bytes),
     }
 }
 
-/// Returns the content of a line that is a print.
-fn print_content(alloc: Global, bytes: &[u8]) -> Result<Content, AllocError>
-    ensures { IfOk result (λ content. IsPrint bytes.now (kept.content_event content)) }
+/// Returns the line that is a print.
+fn print_line(alloc: Global, bytes: &[u8]) -> Result<Line, AllocError>
+    requires none { (at : ℕ) (e : EventView) → ¬ HoldsEvent bytes.now at e }
+    requires says { (e : EventView) → IsPrint bytes.now e → EventSays bytes.now None e }
+    ensures says { IfOk result (λ line. LineSays bytes.now (kept.events_of line)) }
+    ensures rest { IfOk result (λ line. RestOf bytes.now (kept.rest_of line)) }
+    ensures tells { IfOk result (λ line. line.program ≡ None) }
 {
     let plain = plain_text(alloc, bytes)?;
     let line = line_text(alloc, bytes)?;
-    Ok(Content::Print { line, plain })
+    let damage = damage_of(alloc, bytes)?;
+    Ok(other_line(bytes, None, Content::Print { line, plain }, damage))
 }
 
 /// Returns the line that has no JSON value.
@@ -256,6 +279,7 @@ fn text_line(alloc: Global, bytes: &[u8]) -> Result<Line, AllocError>
     ensures rest { IfOk result (λ line. RestOf bytes.now (kept.rest_of line)) }
     ensures tells { IfOk result (λ line. TellsProgram bytes.now (kept.program_of line)) }
 {
+    let damage = damage_of(alloc, bytes)?;
     let (before, content) = text_contents(alloc, bytes)?;
-    other_line(alloc, bytes, before, content)
+    Ok(other_line(bytes, before, content, damage))
 }

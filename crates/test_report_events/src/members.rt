@@ -222,6 +222,36 @@ impl<'a> Members<'a> {
         }
     }
 
+    /// Returns the event of an object of the type `suite`.
+    fn suite_event(&self, time: Option<u64>) -> Option<Event<'a>>
+        requires { AreMembersOf (view self.now.object.now) self.now }
+        ensures { option_map event_view result
+            ≡ option_and_then (suite_said time (view self.now.object.now)) (said.text_of (codes "event") (view self.now.object.now)) }
+    {
+        suite_event_of(self.object, time, self.event_word()?)
+    }
+
+    /// Returns the event of an object of the type `test`.
+    fn named_event(&self, time: Option<u64>) -> Option<Event<'a>>
+        requires { AreMembersOf (view self.now.object.now) self.now }
+        ensures { option_map event_view result
+            ≡ option_and_then (λ name. option_and_then (test_said time (view self.now.object.now) name) (said.text_of (codes "event") (view self.now.object.now)))
+            (said.text_of (codes "name") (view self.now.object.now)) }
+    {
+        self.test_event(time, self.name()?, self.event_word()?)
+    }
+
+    /// Returns the event of an object of the type `bench`.
+    fn bench_event(&self, time: Option<u64>) -> Option<Event<'a>>
+        requires { AreMembersOf (view self.now.object.now) self.now }
+        ensures { option_map event_view result
+            ≡ option_and_then (λ name. Some (TestEnds (test_end_said time (view self.now.object.now) name (bench_result (view self.now.object.now)))))
+            (said.text_of (codes "name") (view self.now.object.now)) }
+    {
+        let name = self.name()?;
+        Some(self.test_end(time, name, self.bench_result()))
+    }
+
     /// Returns the event of an object of a type.
     #[tactic(auto, unfolding(crate::specs::Table::typed_said))]
     fn typed_event(&self, time: Option<u64>, kind: &str) -> Option<Event<'a>>
@@ -230,12 +260,9 @@ impl<'a> Members<'a> {
     {
         match kind {
             "report" | "program" | "command" => Some(Event::Other),
-            "suite" => suite_event_of(self.object, time, self.event_word()?),
-            "test" => self.test_event(time, self.name()?, self.event_word()?),
-            "bench" => {
-                let name = self.name()?;
-                Some(self.test_end(time, name, self.bench_result()))
-            }
+            "suite" => self.suite_event(time),
+            "test" => self.named_event(time),
+            "bench" => self.bench_event(time),
             _ => None,
         }
     }

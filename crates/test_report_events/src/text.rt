@@ -1,7 +1,8 @@
 //! Lines without JSON: headings, failures of cargo and prints.
 
-ghost use Rattle.std.specs.Prelude.{◌≡◌, ℕ, List, IfOk, option_map};
+ghost use Rattle.std.specs.Prelude.{◌≡◌, ℕ, List, IfOk, Some, option_map};
 ghost use Rattle.test_report_events.specs.Content as kept;
+ghost use Rattle.test_report_events.specs.Event.{Prints};
 ghost use Rattle.test_report_events.specs.Line as spec;
 ghost use Rattle.test_report_events.specs.Plain.{IsPlain, line_text};
 ghost use Rattle.test_report_events.specs.Table.{CargoContents, FindsEnd, IsLastFound};
@@ -50,14 +51,21 @@ fn cargo_contents(
     match cargo_line(text) {
         Some(says) => Ok(Some((None, Content::of_cargo(alloc, says, shown, text)?))),
         None => match cargo_end(plain) {
-            Some(end) => {
-                let before = Content::print(alloc, end.front)?;
-                let content = Content::of_cargo(alloc, end.says, end.text, end.text)?;
-                Ok(Some((Some(before), content)))
-            }
+            Some(end) => Ok(Some(end_contents(alloc, end)?)),
             None => Ok(None),
         },
     }
+}
+
+/// Returns the contents of a line that ends with a heading or a failure: the print in front of it, and its event.
+fn end_contents(alloc: Global, end: CargoEnd<'_>) -> Result<(Option<Content>, Content), AllocError>
+    ensures { IfOk result (λ contents.
+        (option_map kept.content_event contents.0 ≡ Some (Prints end.entry.front.now end.entry.front.now))
+        × (kept.content_event contents.1 ≡ kept.cargo_event end.entry.text.now end.entry.text.now end.entry.says)) }
+{
+    let before = Content::print(alloc, end.front, end.front)?;
+    let content = Content::of_cargo(alloc, end.says, end.text, end.text)?;
+    Ok((Some(before), content))
 }
 
 /// Returns a text without the spaces at its start.

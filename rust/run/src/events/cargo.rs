@@ -179,25 +179,32 @@ fn begins(line: &str, front: &str) -> bool {
 
 /// Returns the failure that a line of cargo or nextest reports, or `None` if it reports none.
 pub(crate) fn cargo_failure(line: &str) -> Option<CargoFailure> {
-    if begins(line, "error: could not compile ")
+    if reports_build(line) {
+        Some(CargoFailure::Build)
+    } else if reports_tests(line) {
+        Some(CargoFailure::Tests)
+    } else if begins(line, "error: test run failed") || reports_targets(line) {
+        Some(CargoFailure::Run)
+    } else {
+        None
+    }
+}
+
+/// Returns true for the errors of a crate that was not compiled and of a build script that failed.
+fn reports_build(line: &str) -> bool {
+    begins(line, "error: could not compile ")
         || begins(line, "error: failed to run custom build command for ")
         || begins(line, "error: build script logged errors")
-    {
-        return Some(CargoFailure::Build);
-    }
-    if begins(line, "error: test failed")
+}
+
+/// Returns true for the errors of tests that failed and of tests that could not be run.
+fn reports_tests(line: &str) -> bool {
+    begins(line, "error: test failed")
         || begins(line, "error: doctest failed")
         || begins(line, "error: bench failed")
         || begins(line, "error: no test target named ")
         || begins(line, "error: creating test list failed")
         || begins(line, "error: setup script failed")
-    {
-        return Some(CargoFailure::Tests);
-    }
-    if begins(line, "error: test run failed") || reports_targets(line) {
-        return Some(CargoFailure::Run);
-    }
-    None
 }
 
 /// Returns true for `error: N target failed:` and `error: N targets failed:`.

@@ -80,11 +80,8 @@ impl Content {
     /// Returns an event with a copy of its texts.
     pub(crate) fn of(event: Event<'_>) -> Content {
         match event {
-            Event::SuiteStarted { key, test_count } => Content::SuiteStarted {
-                key: key_texts(key),
-                test_count,
-            },
-            Event::SuiteEnded(end) => Content::SuiteEnded(LastLine::of(end)),
+            Event::SuiteStarted { key, test_count } => Content::suite_started(key, test_count),
+            Event::SuiteEnded(end) => Content::suite_ended(end),
             Event::TestStarted { name } => Content::TestStarted {
                 name: String::from(name),
             },
@@ -92,29 +89,77 @@ impl Content {
                 name,
                 result: outcome,
                 details,
-            } => Content::TestEnded(TestEnd::of(name, outcome, details)),
+            } => Content::test_ended(name, outcome, details),
             Event::TestSlow { name } => Content::TestSlow {
                 name: String::from(name),
             },
             Event::Other => Content::Other,
-            Event::Heading { suite, path } => Content::Heading {
-                suite: String::from(suite),
-                path: owned(path),
-            },
+            Event::Heading { suite, path } => Content::heading(suite, path),
             Event::CargoFailed {
                 failure,
                 line,
                 plain,
-            } => Content::Failure {
-                failure,
-                line: String::from(line),
-                plain: String::from(plain),
-            },
-            Event::Print { line, plain } => Content::Print {
-                line: String::from(line),
-                plain: String::from(plain),
-            },
+            } => Content::failure(failure, line, plain),
+            Event::Print { line, plain } => Content::print(line, plain),
             Event::Damaged { text } => Content::Damaged(String::from(text)),
+        }
+    }
+
+    /// Returns the start of a suite with a copy of its texts.
+    fn suite_started(key: Option<SuiteKey<'_>>, test_count: Option<u64>) -> Content {
+        Content::SuiteStarted {
+            key: key_texts(key),
+            test_count,
+        }
+    }
+
+    /// Returns the end of a suite with a copy of its texts.
+    fn suite_ended(end: SuiteEnd<'_>) -> Content {
+        Content::SuiteEnded(LastLine {
+            key: key_texts(end.key),
+            failed_verdict: end.failed_verdict,
+            passed: end.passed,
+            failed: end.failed,
+            ignored: end.ignored,
+            measured: end.measured,
+            time: end.time,
+        })
+    }
+
+    /// Returns the end of a test with a copy of its texts.
+    fn test_ended(name: &str, outcome: TestResult, details: TestDetails<'_>) -> Content {
+        Content::TestEnded(TestEnd {
+            name: String::from(name),
+            result: outcome,
+            stdout: owned(details.stdout),
+            message: owned(details.message),
+            reason: owned(details.reason),
+            time: details.time,
+        })
+    }
+
+    /// Returns a heading of cargo with a copy of its texts.
+    fn heading(suite: &str, path: Option<&str>) -> Content {
+        Content::Heading {
+            suite: String::from(suite),
+            path: owned(path),
+        }
+    }
+
+    /// Returns a failure that cargo or nextest reports with a copy of its texts.
+    fn failure(failure: CargoFailure, line: &str, plain: &str) -> Content {
+        Content::Failure {
+            failure,
+            line: String::from(line),
+            plain: String::from(plain),
+        }
+    }
+
+    /// Returns a print with a copy of its texts.
+    pub(crate) fn print(line: &str, plain: &str) -> Content {
+        Content::Print {
+            line: String::from(line),
+            plain: String::from(plain),
         }
     }
 
@@ -122,22 +167,10 @@ impl Content {
     pub(crate) fn of_cargo(says: CargoLine<'_>, shown: &str, text: &str) -> Content {
         match says {
             CargoLine::Heading(heading) => Content::Heading {
-                suite: heading.suite(),
                 path: owned(heading.path()),
+                suite: heading.suite(),
             },
-            CargoLine::Failure(failure) => Content::Failure {
-                failure,
-                line: String::from(shown),
-                plain: String::from(text),
-            },
-        }
-    }
-
-    /// Returns a print that is only a part of its line.
-    pub(crate) fn print(text: &str) -> Content {
-        Content::Print {
-            line: String::from(text),
-            plain: String::from(text),
+            CargoLine::Failure(failure) => Content::failure(failure, shown, text),
         }
     }
 
@@ -207,19 +240,6 @@ fn key_texts(key: Option<SuiteKey<'_>>) -> Option<KeyTexts> {
 }
 
 impl LastLine {
-    /// Returns the last line of a suite with a copy of its texts.
-    fn of(end: SuiteEnd<'_>) -> LastLine {
-        LastLine {
-            key: key_texts(end.key),
-            failed_verdict: end.failed_verdict,
-            passed: end.passed,
-            failed: end.failed,
-            ignored: end.ignored,
-            measured: end.measured,
-            time: end.time,
-        }
-    }
-
     /// Returns the end of the suite, which borrows its texts.
     fn end(&self) -> SuiteEnd<'_> {
         SuiteEnd {
@@ -235,18 +255,6 @@ impl LastLine {
 }
 
 impl TestEnd {
-    /// Returns the end of a test with a copy of its texts.
-    fn of(name: &str, outcome: TestResult, details: TestDetails<'_>) -> TestEnd {
-        TestEnd {
-            name: String::from(name),
-            result: outcome,
-            stdout: owned(details.stdout),
-            message: owned(details.message),
-            reason: owned(details.reason),
-            time: details.time,
-        }
-    }
-
     /// Returns the event, which borrows its texts.
     fn event(&self) -> Event<'_> {
         Event::TestEnded {

@@ -43,7 +43,7 @@ impl Line {
             return event_line(bytes, 0, Event::TestStarted { name }, None);
         }
         match value_in(bytes) {
-            Some((at, value)) => value_line(bytes, at, value),
+            Some((at, value)) => value_line(bytes, at, &value),
             None => text_line(bytes),
         }
     }
@@ -91,6 +91,16 @@ fn event_line(bytes: &[u8], at: usize, event: Event<'_>, program: Option<Program
             program,
         };
     }
+    line_with_front(bytes, at, content, program)
+}
+
+/// Returns the line whose event has this content and begins at an offset after text that is no event.
+fn line_with_front(
+    bytes: &[u8],
+    at: usize,
+    content: Content,
+    program: Option<ProgramLine>,
+) -> Line {
     let damage = damage_of(&bytes[..at]);
     Line {
         before: None,
@@ -102,8 +112,12 @@ fn event_line(bytes: &[u8], at: usize, event: Event<'_>, program: Option<Program
 }
 
 /// Returns the line with this content, which is no event of a test harness, and so says nothing of a program.
-fn other_line(bytes: &[u8], before: Option<Content>, content: Content) -> Line {
-    let damage = damage_of(bytes);
+fn other_line(
+    bytes: &[u8],
+    before: Option<Content>,
+    content: Content,
+    damage: Option<Content>,
+) -> Line {
     Line {
         before,
         content,
@@ -155,27 +169,29 @@ fn last_object(line: &[u8]) -> Option<usize> {
 }
 
 /// Returns the line that has a JSON value from an offset on: an event, or a print if the value is no event.
-fn value_line(bytes: &[u8], at: usize, value: Value) -> Line {
-    let members = Members::of(&value);
+fn value_line(bytes: &[u8], at: usize, value: &Value) -> Line {
+    let members = Members::of(value);
     let time = members.time_in(bytes);
     match members.event(time) {
         Some(event) => {
-            let program = ProgramLine::of(&value);
+            let program = ProgramLine::of(value);
             event_line(bytes, at, event, program)
         }
-        None => other_line(bytes, None, print_content(bytes)),
+        None => print_line(bytes),
     }
 }
 
-/// Returns the content of a line that is a print.
-fn print_content(bytes: &[u8]) -> Content {
+/// Returns the line that is a print.
+fn print_line(bytes: &[u8]) -> Line {
     let plain = plain_text(bytes);
     let line = line_text(bytes);
-    Content::Print { line, plain }
+    let damage = damage_of(bytes);
+    other_line(bytes, None, Content::Print { line, plain }, damage)
 }
 
 /// Returns the line that has no JSON value.
 fn text_line(bytes: &[u8]) -> Line {
+    let damage = damage_of(bytes);
     let (before, content) = text_contents(bytes);
-    other_line(bytes, before, content)
+    other_line(bytes, before, content, damage)
 }

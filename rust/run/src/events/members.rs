@@ -154,16 +154,29 @@ impl<'a> Members<'a> {
         }
     }
 
+    /// Returns the event of an object of the type `suite`.
+    fn suite_event(&self, time: Option<u64>) -> Option<Event<'a>> {
+        suite_event_of(self.object, time, self.event_word()?)
+    }
+
+    /// Returns the event of an object of the type `test`.
+    fn named_event(&self, time: Option<u64>) -> Option<Event<'a>> {
+        self.test_event(time, self.name()?, self.event_word()?)
+    }
+
+    /// Returns the event of an object of the type `bench`.
+    fn bench_event(&self, time: Option<u64>) -> Option<Event<'a>> {
+        let name = self.name()?;
+        Some(self.test_end(time, name, self.bench_result()))
+    }
+
     /// Returns the event of an object of a type.
     fn typed_event(&self, time: Option<u64>, kind: &str) -> Option<Event<'a>> {
         match kind {
             "report" | "program" | "command" => Some(Event::Other),
-            "suite" => suite_event_of(self.object, time, self.event_word()?),
-            "test" => self.test_event(time, self.name()?, self.event_word()?),
-            "bench" => {
-                let name = self.name()?;
-                Some(self.test_end(time, name, self.bench_result()))
-            }
+            "suite" => self.suite_event(time),
+            "test" => self.named_event(time),
+            "bench" => self.bench_event(time),
             _ => None,
         }
     }

@@ -29,15 +29,15 @@ fn cargo_contents(shown: &str, plain: &str) -> Option<(Option<Content>, Content)
     let text = without_spaces(plain);
     match cargo_line(text) {
         Some(says) => Some((None, Content::of_cargo(says, shown, text))),
-        None => match cargo_end(plain) {
-            Some(end) => {
-                let before = Content::print(end.front);
-                let content = Content::of_cargo(end.says, end.text, end.text);
-                Some((Some(before), content))
-            }
-            None => None,
-        },
+        None => cargo_end(plain).map(end_contents),
     }
+}
+
+/// Returns the contents of a line that ends with a heading or a failure: the print in front of it, and its event.
+fn end_contents(end: CargoEnd<'_>) -> (Option<Content>, Content) {
+    let before = Content::print(end.front, end.front);
+    let content = Content::of_cargo(end.says, end.text, end.text);
+    (Some(before), content)
 }
 
 /// Returns a text without the spaces at its start.

@@ -5,5 +5,5 @@ use Rattle.test_report_events.proofs.line.other_line.Goals as goal
 
 pub returns-clause-says : goal.returns-clause-says
 returns-clause-says c =
-    other_line c.args.bytes.now _ (option_map content_event c.args.before) (option_map content_event c.in_ok-damage.damage) (content_event c.args.content)
-    c.requires.none c.requires.says c.in_ok-damage.ensures refl
+    other_line c.args.bytes.now _ (option_map content_event c.args.before) (option_map content_event c.args.damage) (content_event c.args.content)
+    c.requires.none c.requires.says c.requires.damaged refl

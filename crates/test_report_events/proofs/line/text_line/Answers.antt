@@ -1,5 +1,4 @@
 use Rattle.std.proofs.Common.{None}
-use Rattle.std.proofs.lemmas.Result.{IfOk-weaker}
 use Rattle.test_report_events.proofs.Readings.{tells_kept, text_says}
 use Rattle.test_report_events.proofs.line.text_line.Goals as goal
 
@@ -8,5 +7,4 @@ other_line-requires-clause-says c = text_says c.args.bytes.now _ _ c.requires c.
 
 pub returns-clause-tells : goal.returns-clause-tells
 returns-clause-tells c =
-    IfOk-weaker c.other_line.result _ _ (λ line. tells_kept c.args.bytes.now line None (λ at d holds. absurd (c.requires at d holds)))
-    c.other_line.ensures.tells
+    tells_kept c.args.bytes.now c.other_line.result None (λ at d holds. absurd (c.requires at d holds)) c.other_line.ensures.tells

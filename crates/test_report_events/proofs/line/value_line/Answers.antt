@@ -2,7 +2,6 @@
 use Rattle.std.proofs.Common.{◌≡◌, ◌∙◌, None, ap, option_map, subst, sym}
 use Rattle.std.proofs.lemmas.Result.{IfOk-weaker}
 use Rattle.serde_json.specs.View.{view}
-use Rattle.test_report_events.specs.Content.{content_event}
 use Rattle.test_report_events.specs.Event.{event_view}
 use Rattle.test_report_events.specs.Said.{IsTime}
 use Rattle.test_report_events.specs.Table.{object_said}
@@ -12,46 +11,46 @@ use Rattle.test_report_events.proofs.line.value_line.Goals as goal
 
 pub event_line-requires : goal.event_line-requires
 event_line-requires c =
-    let d = view c.args.value in
+    let d = view c.args.value.now in
     let same : view c.of-members.result.object.now ≡ d = ap view c.of-members.ensures.object in
     let time = c.time_in-time.result in
     let said : option_map event_view c.event.result ≡ object_said time d = c.event.ensures ∙ ap (object_said time) same in
     object_is c.args.bytes.now c.args.at d time (event_view c.in-Some.event) c.requires
     (subst (λ x. IsTime c.args.bytes.now x time) same c.time_in-time.ensures) (sym said ∙ ap (option_map event_view) c.in-Some.is)
 
-pub other_line-requires-clause-none : goal.other_line-requires-clause-none
-other_line-requires-clause-none c =
-    let d = view c.args.value in
+pub print_line-requires-clause-none : goal.print_line-requires-clause-none
+print_line-requires-clause-none c =
+    let d = view c.args.value.now in
     let same : view c.of-members.result.object.now ≡ d = ap view c.of-members.ensures.object in
     let time = c.time_in-time.result in
     let said : option_map event_view c.event.result ≡ object_said time d = c.event.ensures ∙ ap (object_said time) same in
     object_none c.args.bytes.now c.args.at d time c.requires
     (subst (λ x. IsTime c.args.bytes.now x time) same c.time_in-time.ensures) (sym said ∙ ap (option_map event_view) c.in-None.is)
 
-pub other_line-requires-clause-says : goal.other_line-requires-clause-says
-other_line-requires-clause-says c =
-    let d = view c.args.value in
+pub print_line-requires-clause-says : goal.print_line-requires-clause-says
+print_line-requires-clause-says c =
+    let d = view c.args.value.now in
     let same : view c.of-members.result.object.now ≡ d = ap view c.of-members.ensures.object in
     let time = c.time_in-time.result in
     let said : option_map event_view c.event.result ≡ object_said time d = c.event.ensures ∙ ap (object_said time) same in
     let none = object_none c.args.bytes.now c.args.at d time c.requires
     (subst (λ x. IsTime c.args.bytes.now x time) same c.time_in-time.ensures) (sym said ∙ ap (option_map event_view) c.in-None.is) in
-    value_print c.args.bytes.now c.args.at d (content_event c.in_ok-print_content-in-None.field-0) c.requires none c.in_ok-print_content-in-None.ensures
+    λ e is_print. value_print c.args.bytes.now c.args.at d e c.requires none is_print
 
-pub returns-in-Some-clause-tells : goal.returns-in-Some-clause-tells
-returns-in-Some-clause-tells c =
+pub returns-in_ok-program-in-Some-clause-tells : goal.returns-in_ok-program-in-Some-clause-tells
+returns-in_ok-program-in-Some-clause-tells c =
     IfOk-weaker c.event_line.result _ _
     (λ line. tells_kept c.args.bytes.now line c.in_ok-program-in-Some.program
-    (tells_held c.args.bytes.now c.args.at (view c.args.value) _ c.requires c.in_ok-program-in-Some.ensures))
+    (tells_held c.args.bytes.now c.args.at (view c.args.value.now) _ c.requires c.in_ok-program-in-Some.ensures))
     c.event_line.ensures.tells
 
-pub returns-clause-tells : goal.returns-clause-tells
-returns-clause-tells c =
-    let d = view c.args.value in
+pub returns-in-None-clause-tells : goal.returns-in-None-clause-tells
+returns-in-None-clause-tells c =
+    let d = view c.args.value.now in
     let same : view c.of-members.result.object.now ≡ d = ap view c.of-members.ensures.object in
     let time = c.time_in-time.result in
     let said : option_map event_view c.event.result ≡ object_said time d = c.event.ensures ∙ ap (object_said time) same in
-    IfOk-weaker c.other_line.result _ _
+    IfOk-weaker c.print_line.result _ _
     (λ line. tells_kept c.args.bytes.now line None
     (tells_held c.args.bytes.now c.args.at d None c.requires (sym (tells-none d time (sym said ∙ ap (option_map event_view) c.in-None.is)))))
-    c.other_line.ensures.tells
+    c.print_line.ensures.tells
