@@ -11,4 +11,5 @@ pub mod devices;
 pub mod fixtures;
 pub mod named;
 pub mod output_slice_tests;
+#[cfg(feature = "reports")]
 pub mod reports;
