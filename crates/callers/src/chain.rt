@@ -23,8 +23,7 @@ const OTHER: [(&str, FromValueError); 5] = [
     ),
 ];
 
-/// The number of causes of a long error. If a comparison or a drop called itself for each cause,
-/// the stack would overflow.
+/// The causes of a long error. A comparison or drop that called itself for each needs too much stack.
 const MANY: u32 = 200_000;
 
 /// Returns this many causes, which all differ.

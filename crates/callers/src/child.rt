@@ -77,10 +77,16 @@ pub(crate) fn from_output(alloc: Global) -> Result<Outcome, AllocError> {
     })
 }
 
+/// Returns true if an error in starting a process is described, which takes no memory.
+fn is_start_error_described(alloc: Global) -> Result<bool, AllocError> {
+    let error = ChildStartError::Spawn(error(alloc, 0)?);
+    let count = count_described(alloc, ChildExecutionOutput::StartError(error), None);
+    Ok(matches!(count, Ok(1)))
+}
+
 /// Describes an error in starting a process, and then output without errors. This takes no memory.
 pub(crate) fn from_output_without_errors(alloc: Global) -> Result<Outcome, AllocError> {
-    let error = ChildStartError::Spawn(error(alloc, 0)?);
-    let error = count_described(alloc, ChildExecutionOutput::StartError(error), None);
-    let output = count_described(alloc, ended(alloc, 0)?, None);
-    Ok(Outcome::RightAnswer.only_if(matches!((error, output), (Ok(1), Ok(0)))))
+    let is_right = is_start_error_described(alloc)?;
+    let count = count_described(alloc, ended(alloc, 0)?, None);
+    Ok(Outcome::RightAnswer.only_if(is_right && matches!(count, Ok(0))))
 }

@@ -43,8 +43,7 @@ const NAMES: [&str; 14] = [
     "unique-id",
 ];
 
-/// Makes the arguments of the named call, then the call. It is an error if an allocation fails
-/// before the call.
+/// Makes the arguments of the named call, then the call. Fails if memory runs out before the call.
 fn outcome_of(alloc: Global, name: &str) -> Result<Outcome, AllocError> {
     match name {
         "from-message-and-causes" => chain::from_message_and_causes(alloc),
@@ -65,8 +64,7 @@ fn outcome_of(alloc: Global, name: &str) -> Result<Outcome, AllocError> {
     }
 }
 
-/// Makes the named call, and prints its name and its outcome. Returns true unless the answer is
-/// wrong.
+/// Makes the named call, and prints its name and outcome. Returns true unless the answer is wrong.
 fn make<R: AllocGlobal + Print>(rt: &R, name: &str) -> io::Result<bool> {
     let outcome = outcome_of(rt.alloc(), name).unwrap_or(Outcome::NotReached);
     let text = outcome.text();
