@@ -40,11 +40,12 @@ def _on_type(source, i, crate):
     name = source.at(source.after(i))
     first = _first_word(source, i)
     derive, words = _derive(source, first)
-    if crate in types.DEBUG_OF_ALL and "Debug" in words:
-        source.refuse(i, "`Debug` is derived in a crate whose types get it from the eraser")
+    of_all = types.DERIVES_OF_ALL.get(crate, ())
+    if not set(words).isdisjoint(of_all):
+        source.refuse(i, f"the eraser derives {', '.join(of_all)} for all types of this crate")
     has_drop = "Drop" in words
     words = [word for word in words if word != "Drop" and word not in types.REMOVED_DERIVES.get(name, ())]
-    words += [word for word in types.ADDED_DERIVES.get(name, ()) if word not in words]
+    words += [word for word in (*of_all, *types.ADDED_DERIVES.get(name, ())) if word not in words]
     if has_drop and not _is_generic(source, i) and name not in types.NO_CLONE and "Clone" not in words:
         words.append("Clone")
     if _gets_debug(source, i, first, crate) and "Debug" not in words:
@@ -59,9 +60,7 @@ def _on_type(source, i, crate):
 
 
 def _gets_debug(source, i, first, crate):
-    """Returns true for each type of some crates, and for the public types of the layer that need no text of their own."""
-    if crate in types.DEBUG_OF_ALL:
-        return True
+    """Returns true for the public types of the layer that need no text of their own."""
     is_public = source.at(first) == "pub" and source.at(source.after(first)) != "("
     is_by_hand = _implements(source, "Debug", source.at(source.after(i)))
     return PACKAGE_OF[crate] == LAYER and is_public and not _is_generic(source, i) and not is_by_hand

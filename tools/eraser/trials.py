@@ -40,7 +40,7 @@ TABLE_SAMPLES = {
     "the variants, with the name inside another variant": lambda: with_attributes(
         "pub enum FinalStatusLevel { A(Flaky) }", "run_events_results/src/levels.rt"
     ),
-    "the crates whose types get `Debug`, with a derive": lambda: with_attributes(
+    "the crates whose types all get a derive, with that derive": lambda: with_attributes(
         "#[derive(Debug)]\npub struct A;", "test_report_run/src/sample.rt"
     ),
     "the types of serde, without a type": lambda: refuse_unused_rows(

@@ -1,12 +1,12 @@
 """Derives, attributes and method names that types have only in Rust."""
 from .table import PACKAGES, RUN
 
-# Crates whose types all have `Debug` in Rust, and none in their sources: a derive costs seconds of each check, and
-# promises nothing.
-DEBUG_OF_ALL = PACKAGES[RUN]
+# Derives that all types of a crate have in Rust, and none in its sources: a derive costs seconds of each check, and
+# promises nothing, or nothing that the proved code uses.
+EQUAL = ("PartialEq", "Eq")
+DERIVES_OF_ALL = dict.fromkeys(PACKAGES[RUN], ("Debug",)) | {"c_values": ("Debug", "Default") + EQUAL}
 
 # Derives that a type has in Rust in addition to those of its source: users compare these, or keep them in maps.
-EQUAL = ("PartialEq", "Eq")
 KEY = ("PartialEq", "Eq", "PartialOrd", "Ord", "Hash")
 ADDED_DERIVES = {
     "ByteSubslice": EQUAL,

@@ -2,7 +2,7 @@
 
 /// A part of captured output.
 #[repr(C)]
-#[derive(Clone, Copy, Debug, Default, PartialEq, Eq)]
+#[derive(Clone, Copy)]
 pub struct FfiSlice {
     /// The code of the part's kind, or 0 if nothing was found.
     pub kind: u32,
@@ -16,7 +16,7 @@ pub struct FfiSlice {
 
 /// The head of a panic message, and the number of reads of the search for it.
 #[repr(C)]
-#[derive(Clone, Copy, Debug, Default, PartialEq, Eq)]
+#[derive(Clone, Copy)]
 pub struct FfiHead {
     /// Whether there is a head. If not, start and stop are 0.
     pub is_found: bool,
@@ -33,7 +33,7 @@ pub struct FfiHead {
 
 /// The result of an attempt or of a setup script.
 #[repr(C)]
-#[derive(Clone, Copy, Debug, Default, PartialEq, Eq)]
+#[derive(Clone, Copy)]
 pub struct FfiResult {
     /// The code of the result.
     pub kind: u32,
@@ -44,7 +44,7 @@ pub struct FfiResult {
 
 /// The part of a finished test that decides its counters and its levels.
 #[repr(C)]
-#[derive(Clone, Copy, Debug, Default, PartialEq, Eq)]
+#[derive(Clone, Copy)]
 pub struct FfiTestView {
     /// The result of the last attempt.
     pub result: FfiResult,
@@ -62,7 +62,7 @@ pub struct FfiTestView {
 /// The counters of a run: the tests or setup scripts that their docstrings describe. `tools/header`
 /// writes these docstrings into the header.
 #[repr(C)]
-#[derive(Clone, Copy, Debug, Default, PartialEq, Eq)]
+#[derive(Clone, Copy)]
 pub struct FfiRunStats {
     /// Tests that were to run.
     pub initial_run_count: usize,
@@ -127,7 +127,7 @@ pub struct FfiRunStats {
 
 /// The numbers of tests and of setup scripts that did not pass.
 #[repr(C)]
-#[derive(Clone, Copy, Debug, Default, PartialEq, Eq)]
+#[derive(Clone, Copy)]
 pub struct FfiFailedCounts {
     /// The tests.
     pub tests: usize,
@@ -139,7 +139,7 @@ pub struct FfiFailedCounts {
 /// The summary of a finished run. If a function writes it, fields that its kind and its step do not
 /// have are 0. If a function reads it, they are ignored.
 #[repr(C)]
-#[derive(Clone, Copy, Debug, Default, PartialEq, Eq)]
+#[derive(Clone, Copy)]
 pub struct FfiFinalStats {
     /// The code of the summary's kind.
     pub kind: u32,
@@ -159,7 +159,7 @@ pub struct FfiFinalStats {
 
 /// A test that has just finished, and the reporter's settings that decide how it is displayed.
 #[repr(C)]
-#[derive(Clone, Copy, Debug, Default, PartialEq, Eq)]
+#[derive(Clone, Copy)]
 pub struct FfiFinishedTest {
     /// The code of the reporter's status level.
     pub status_level: u32,
@@ -185,7 +185,7 @@ pub struct FfiFinishedTest {
 
 /// What a reporter does with a test that has just finished.
 #[repr(C)]
-#[derive(Clone, Copy, Debug, Default, PartialEq, Eq)]
+#[derive(Clone, Copy)]
 pub struct FfiOutput {
     /// Whether a line with the test's status is written.
     pub write_status_line: bool,
@@ -199,7 +199,7 @@ pub struct FfiOutput {
 
 /// A duration.
 #[repr(C)]
-#[derive(Clone, Copy, Debug, Default, PartialEq, Eq)]
+#[derive(Clone, Copy)]
 pub struct FfiDuration {
     /// Its whole seconds.
     pub seconds: u64,
@@ -210,7 +210,7 @@ pub struct FfiDuration {
 
 /// The progress of a repeated run.
 #[repr(C)]
-#[derive(Clone, Copy, Debug, Default, PartialEq, Eq)]
+#[derive(Clone, Copy)]
 pub struct FfiStressProgress {
     /// The code of how long the run is repeated.
     pub kind: u32,
@@ -230,7 +230,7 @@ pub struct FfiStressProgress {
 
 /// What remains of a repeated run. A field that its kind does not have is 0.
 #[repr(C)]
-#[derive(Clone, Copy, Debug, Default, PartialEq, Eq)]
+#[derive(Clone, Copy)]
 pub struct FfiStressRemaining {
     /// The code of the kind of what remains.
     pub kind: u32,
