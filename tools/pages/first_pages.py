@@ -17,7 +17,7 @@ def proved_sources(top):
     """Returns the texts of the sources in which an example may be."""
     found = []
     for folder, root in PROVED.items():
-        modules = re.findall(r"^mod (\w+);", Path(top, "crates", root).read_text(encoding="utf-8"), re.M)
+        modules = re.findall(r"^pub mod (\w+);", Path(top, "crates", root).read_text(encoding="utf-8"), re.M)
         found += [Path(top, "crates", folder, f"{module}.rt").read_text(encoding="utf-8") for module in modules]
     return found
 
