@@ -228,11 +228,11 @@ fn whole_outputs_have_a_limit() {
 
 #[test]
 fn whole_outputs_of_a_page_have_a_limit_together() {
-    // Each is shown as 1,048,601 bytes, and as 3,908,351 bytes between tags.
-    let lines = run_with_reasons(7, &"<<<<<<<<<<\n".repeat(110_000));
+    // Each is shown as 1,048,601 bytes, and as 1,334,576 bytes between tags.
+    let lines = run_with_reasons(18, &"<234567890\n".repeat(110_000));
     let page = report(&["--format", "html"], &lines, 1);
-    assert_eq!(page.matches("<summary>output, ").count(), 5);
-    assert_eq!(page.matches("<span>a</span>").count(), 7);
+    assert_eq!(page.matches("<summary>output, ").count(), 13);
+    assert_eq!(page.matches("<span>a</span>").count(), 18);
 }
 
 /// GitHub shows nothing of a summary that has more bytes.

@@ -40,12 +40,12 @@ fn memory_does_not_grow_with_tests_that_passed() {
             .expect("the program starts");
         let mut stdin = child.stdin.take().expect("standard input is a pipe");
         stdin
-            .write_all(b"{\"type\":\"suite\",\"event\":\"started\",\"test_count\":40000}\n")
+            .write_all(b"{\"type\":\"suite\",\"event\":\"started\",\"test_count\":110000}\n")
             .expect("the program reads");
         // The program is at most a full pipe behind.
         write_tests(&mut stdin, 10_000);
         let before = peak_of(child.id());
-        write_tests(&mut stdin, 30_000);
+        write_tests(&mut stdin, 100_000);
         let after = peak_of(child.id());
         stdin
             .write_all(b"{\"type\":\"suite\",\"event\":\"ok\"}\n")
