@@ -26,8 +26,8 @@ const OTHER: [(&str, FromValueError); 5] = [
 /// The causes of a long error. A comparison or drop that called itself for each needs too much stack.
 const MANY: u32 = 200_000;
 
-/// Returns this many causes, which all differ.
-fn causes(alloc: Global, count: u32) -> Result<Vec<String>, AllocError> {
+/// Returns this many texts, which all differ.
+pub(crate) fn causes(alloc: Global, count: u32) -> Result<Vec<String>, AllocError> {
     let mut causes = Vec::new(alloc);
     for number in 0..count {
         causes.push(format!(in alloc; "cause {number}")?)?;
@@ -41,12 +41,21 @@ pub(crate) fn error(alloc: Global, count: u32) -> Result<SerializableError, Allo
     SerializableError::from_message_and_causes(alloc, String::from_str(alloc, "m")?, causes)
 }
 
-/// Returns true if an error has the message and the first cause of the known one.
-fn is_known(error: &SerializableError) -> bool {
-    match error.source() {
-        Some(cause) => error.message() == "m" && cause.message() == "cause 0",
+/// Returns true if there is an error and it has this message.
+pub(crate) fn has_message(error: Option<&SerializableError>, message: &str) -> bool {
+    match error {
+        Some(error) => error.message() == message,
         None => false,
     }
+}
+
+/// Returns true if an error is the known one.
+fn is_known(error: &SerializableError) -> bool {
+    let mut causes = error.sources();
+    error.message() == "m"
+        && has_message(causes.next(), "cause 0")
+        && has_message(causes.next(), "cause 1")
+        && causes.next().is_none()
 }
 
 /// Returns the value of a JSON text.
@@ -69,16 +78,17 @@ pub(crate) fn to_value(alloc: Global) -> Result<Outcome, AllocError> {
     let error = error(alloc, 2)?;
     let known = value_of(alloc, KNOWN)?;
     Ok(match error.to_value(alloc) {
-        Ok(value) => Outcome::RightAnswer.only_if(value == known),
+        Ok(value) => Outcome::RightAnswer.only_if(value == known && is_known(&error)),
         Err(AllocError) => Outcome::OutOfMemory.only_if(is_known(&error)),
     })
 }
 
 pub(crate) fn from_value(alloc: Global) -> Result<Outcome, AllocError> {
     let value = value_of(alloc, KNOWN)?;
+    let known = value_of(alloc, KNOWN)?;
     Ok(match SerializableError::from_value(alloc, &value) {
-        Ok(error) => Outcome::RightAnswer.only_if(is_known(&error)),
-        Err(FromValueError::OutOfMemory) => Outcome::OutOfMemory,
+        Ok(error) => Outcome::RightAnswer.only_if(is_known(&error) && value == known),
+        Err(FromValueError::OutOfMemory) => Outcome::OutOfMemory.only_if(value == known),
         Err(_) => Outcome::WrongAnswer,
     })
 }

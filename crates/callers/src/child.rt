@@ -1,23 +1,38 @@
 //! The output of a child process, described for reporters.
 
-use crate::chain::error;
+use crate::chain::{causes, has_message};
 use crate::outcome::Outcome;
 use bytes::Bytes;
+use run_events::chain::SerializableError;
 use run_events::child::{
-    ChildError, ChildExecutionOutput, ChildExecutionOutputDescription, ChildFdError, ChildOutput,
-    ChildSingleOutput, ChildSplitOutput, ChildStartError, ErrorList, LiveSpec, Refused,
+    ChildError, ChildErrorDescription, ChildExecutionOutput, ChildExecutionOutputDescription,
+    ChildFdError, ChildOutput, ChildOutputDescription, ChildSingleOutput, ChildSplitOutput,
+    ChildStartError, ErrorList, LiveSpec,
 };
-use run_events::results::{AbortStatus, ExecutionResult, FailureStatus};
+use run_events::results::{
+    AbortStatus, ExecutionResult, ExecutionResultDescription, FailureStatus,
+};
 use std::alloc::{AllocError, Global};
 
 /// The description of the output of a child process.
 pub(crate) type Description = ChildExecutionOutputDescription<LiveSpec>;
 
-/// Returns this many errors in reading from a process.
+/// The result of the process.
+const END: ExecutionResult = ExecutionResult::Fail {
+    failure_status: FailureStatus::Abort(AbortStatus::UnixSignal(15)),
+    leaked: true,
+};
+
+/// Returns an error with this message and no cause.
+fn error(alloc: Global, message: String) -> Result<SerializableError, AllocError> {
+    SerializableError::from_message_and_causes(alloc, message, Vec::new(alloc))
+}
+
+/// Returns this many errors in reading from a process, whose messages are those of [`causes`].
 fn errors(alloc: Global, count: u32) -> Result<Option<ErrorList<ChildError>>, AllocError> {
     let mut errors = Vec::new(alloc);
-    for _ in 0..count {
-        errors.push(ChildError::Fd(ChildFdError::ReadStdout(error(alloc, 0)?)))?;
+    for message in causes(alloc, count)? {
+        errors.push(ChildError::Fd(ChildFdError::ReadStdout(error(alloc, message)?)))?;
     }
     Ok(ErrorList::new("reading", errors))
 }
@@ -27,10 +42,7 @@ fn ended(alloc: Global, count: u32) -> Result<ChildExecutionOutput, AllocError> 
     let errors = errors(alloc, count)?;
     let stderr = Bytes::copy_from_slice(alloc, b"Error: e")?;
     Ok(ChildExecutionOutput::Output {
-        result: Some(ExecutionResult::Fail {
-            failure_status: FailureStatus::Abort(AbortStatus::UnixSignal(15)),
-            leaked: true,
-        }),
+        result: Some(END),
         output: ChildOutput::Split(ChildSplitOutput {
             stdout: None,
             stderr: Some(ChildSingleOutput::from(stderr)),
@@ -48,45 +60,118 @@ pub(crate) fn described(alloc: Global, count: u32) -> Result<Description, AllocE
     }
 }
 
-/// Describes output, and returns the number of errors of the description.
-fn count_described(
-    alloc: Global,
-    output: ChildExecutionOutput,
-    name: Option<String>,
-) -> Result<usize, Refused> {
-    match Description::from_output(alloc, output, name) {
-        Ok(ChildExecutionOutputDescription::StartError(_)) => Ok(1),
-        Ok(ChildExecutionOutputDescription::Output { errors, .. }) => Ok(match &errors {
-            Some(errors) => errors.len(),
-            None => 0,
-        }),
-        Err(refused) => Err(refused),
+/// What the description of [`ended`] must be: its result, and the messages of its errors.
+#[derive(Drop)]
+struct Wanted {
+    result: Option<ExecutionResultDescription>,
+    messages: Vec<String>,
+}
+
+/// Returns what the description of [`ended`] with the name of the signal must be.
+fn what_is_wanted(alloc: Global, count: u32) -> Result<Wanted, AllocError> {
+    let name = String::from_str(alloc, "TERM")?;
+    Ok(Wanted {
+        result: Some(ExecutionResultDescription::from_status(END, Some(name))),
+        messages: causes(alloc, count)?,
+    })
+}
+
+/// Returns true if this is the captured output of [`ended`].
+fn is_captured(output: &ChildOutputDescription) -> bool {
+    match output {
+        ChildOutputDescription::Split {
+            stdout: None,
+            stderr: Some(stderr),
+        } => stderr.buf().as_slice() == b"Error: e".as_slice(),
+        _ => false,
+    }
+}
+
+/// Returns true if an error is one in reading, with this message.
+pub(crate) fn is_read(error: Option<&ChildErrorDescription>, message: &str) -> bool {
+    match error {
+        Some(ChildErrorDescription::ReadStdout { source }) => has_message(Some(source), message),
+        _ => false,
+    }
+}
+
+/// Returns true if there are errors in reading with these messages, or no list if there are none.
+fn are_read(errors: &Option<ErrorList<ChildErrorDescription>>, messages: &[String]) -> bool {
+    let Some(errors) = errors else {
+        return messages.is_empty();
+    };
+    let mut left = errors.iter();
+    let mut are_read = errors.description() == "reading";
+    for message in messages {
+        are_read = are_read && is_read(left.next(), message.as_str());
+    }
+    are_read && left.next().is_none()
+}
+
+/// Returns true if this is the description that is wanted.
+fn is_wanted(described: &Description, wanted: &Wanted) -> bool {
+    match described {
+        ChildExecutionOutputDescription::Output {
+            result,
+            output,
+            errors,
+        } => {
+            *result == wanted.result
+                && is_captured(output)
+                && are_read(errors, wanted.messages.as_slice())
+        }
+        ChildExecutionOutputDescription::StartError(_) => false,
     }
 }
 
 pub(crate) fn from_output(alloc: Global) -> Result<Outcome, AllocError> {
+    let wanted = what_is_wanted(alloc, 2)?;
     let name = String::from_str(alloc, "TERM")?;
     let output = ended(alloc, 2)?;
-    Ok(match count_described(alloc, output, Some(name)) {
-        Ok(count) => Outcome::RightAnswer.only_if(count == 2),
-        // Output and name are returned unchanged, so they can be described now.
-        Err(refused) => {
-            let again = count_described(alloc, refused.output, refused.name);
-            Outcome::OutOfMemory.only_if(matches!(again, Ok(2)))
-        }
+    Ok(match Description::from_output(alloc, output, Some(name)) {
+        Ok(described) => Outcome::RightAnswer.only_if(is_wanted(&described, &wanted)),
+        // Output and name are returned unchanged, so their description is the same as at first.
+        Err(refused) => match Description::from_output(alloc, refused.output, refused.name) {
+            Ok(described) => Outcome::OutOfMemory.only_if(is_wanted(&described, &wanted)),
+            Err(_) => Outcome::WrongAnswer,
+        },
     })
+}
+
+/// Returns true if output without errors is described, which takes no memory.
+fn is_output_described(alloc: Global) -> Result<bool, AllocError> {
+    let wanted = what_is_wanted(alloc, 0)?;
+    let name = String::from_str(alloc, "TERM")?;
+    let output = ended(alloc, 0)?;
+    Ok(match Description::from_output(alloc, output, Some(name)) {
+        Ok(described) => is_wanted(&described, &wanted),
+        Err(_) => false,
+    })
+}
+
+/// Returns true if this describes a process that was not started, by an error with the message `s`.
+fn is_not_started(described: &Description) -> bool {
+    match described {
+        ChildExecutionOutputDescription::StartError(error) => {
+            has_message(Some(error.source()), "s")
+        }
+        ChildExecutionOutputDescription::Output { .. } => false,
+    }
 }
 
 /// Returns true if an error in starting a process is described, which takes no memory.
 fn is_start_error_described(alloc: Global) -> Result<bool, AllocError> {
-    let error = ChildStartError::Spawn(error(alloc, 0)?);
-    let count = count_described(alloc, ChildExecutionOutput::StartError(error), None);
-    Ok(matches!(count, Ok(1)))
+    let source = error(alloc, String::from_str(alloc, "s")?)?;
+    let output = ChildExecutionOutput::StartError(ChildStartError::Spawn(source));
+    Ok(match Description::from_output(alloc, output, None) {
+        Ok(described) => is_not_started(&described),
+        Err(_) => false,
+    })
 }
 
-/// Describes an error in starting a process, and then output without errors. This takes no memory.
+/// Describes output without errors, and an error in starting a process. This takes no memory.
 pub(crate) fn from_output_without_errors(alloc: Global) -> Result<Outcome, AllocError> {
-    let is_right = is_start_error_described(alloc)?;
-    let count = count_described(alloc, ended(alloc, 0)?, None);
-    Ok(Outcome::RightAnswer.only_if(is_right && matches!(count, Ok(0))))
+    let is_output_described = is_output_described(alloc)?;
+    let is_start_error_described = is_start_error_described(alloc)?;
+    Ok(Outcome::RightAnswer.only_if(is_output_described && is_start_error_described))
 }

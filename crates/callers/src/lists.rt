@@ -1,10 +1,11 @@
 //! Lists of the errors of a test.
 
-use crate::child::{Description, described};
+use crate::chain::causes;
+use crate::child::{Description, described, is_read};
 use crate::outcome::Outcome;
-use run_events::child::{ChildExecutionOutputDescription, ChildOutputDescription};
+use run_events::child::{ChildExecutionOutputDescription, ChildOutputDescription, ErrorList};
 use run_events::results::{ExecutionResultDescription, UnitKind};
-use run_events::unit_error::UnitErrorDescription;
+use run_events::unit_error::{UnitError, UnitErrorDescription};
 use std::alloc::{AllocError, Global};
 
 /// The errors in one of the three lists.
@@ -15,46 +16,95 @@ pub(crate) enum Kinds {
     ChildProcess,
 }
 
-/// Returns the length of a list of the errors of a test, which is 0 if there is no list. Returns
-/// `None` if the errors of the test cannot be described.
-fn length(alloc: Global, kinds: Kinds, output: &Description) -> Result<Option<usize>, AllocError> {
+impl Kinds {
+    /// Returns the list of these errors.
+    fn list<'a>(
+        self,
+        alloc: Global,
+        errors: UnitErrorDescription<'a>,
+    ) -> Result<Option<ErrorList<UnitError<'a>>>, AllocError> {
+        match self {
+            Kinds::All => errors.all_error_list(alloc),
+            Kinds::ExecFail => errors.exec_fail_error_list(alloc),
+            Kinds::ChildProcess => errors.child_process_error_list(alloc),
+        }
+    }
+
+    /// Returns true if the list has errors in reading.
+    fn has_reads(self) -> bool {
+        match self {
+            Kinds::All | Kinds::ExecFail => true,
+            Kinds::ChildProcess => false,
+        }
+    }
+
+    /// Returns true if the list has what ended the test, and the part of its output that explains this.
+    fn has_ends(self) -> bool {
+        match self {
+            Kinds::All | Kinds::ChildProcess => true,
+            Kinds::ExecFail => false,
+        }
+    }
+}
+
+/// Returns true if an error of a unit is one in reading, with this message.
+fn is_unit_read(error: Option<&UnitError<'_>>, message: &str) -> bool {
+    match error {
+        Some(UnitError::Output(error)) => is_read(Some(*error), message),
+        _ => false,
+    }
+}
+
+/// Returns true if a list is that of a test, and has the errors of these kinds: those in reading with
+/// these messages, the abort, and the slice.
+fn is_list(list: &ErrorList<UnitError<'_>>, kinds: Kinds, messages: &[String]) -> bool {
+    let mut left = list.iter();
+    let mut is_right = list.description() == "executing test";
+    if kinds.has_reads() {
+        for message in messages {
+            is_right = is_right && is_unit_read(left.next(), message.as_str());
+        }
+    }
+    if kinds.has_ends() {
+        is_right = is_right
+            && matches!(left.next(), Some(UnitError::Abort(_)))
+            && matches!(left.next(), Some(UnitError::Slice(_)));
+    }
+    is_right && left.next().is_none()
+}
+
+/// Makes a list of the errors of a test, and returns true if it is right.
+fn is_made(
+    alloc: Global,
+    kinds: Kinds,
+    output: &Description,
+    messages: &[String],
+) -> Result<bool, AllocError> {
     if !UnitErrorDescription::can_describe(UnitKind::Test, output) {
-        return Ok(None);
+        return Ok(false);
     }
     let errors = UnitErrorDescription::new(UnitKind::Test, output);
-    let list = match kinds {
-        Kinds::All => errors.all_error_list(alloc),
-        Kinds::ExecFail => errors.exec_fail_error_list(alloc),
-        Kinds::ChildProcess => errors.child_process_error_list(alloc),
-    };
-    match list {
-        Ok(Some(list)) => Ok(Some(list.len())),
-        Ok(None) => Ok(Some(0)),
+    match kinds.list(alloc, errors) {
+        Ok(Some(list)) => Ok(is_list(&list, kinds, messages)),
+        Ok(None) => Ok(false),
         Err(AllocError) => Err(AllocError),
     }
 }
 
-/// Returns true if a list of the errors of a test can be made and has this length.
-fn has_length(alloc: Global, kinds: Kinds, output: &Description, wanted: usize) -> bool {
-    match length(alloc, kinds, output) {
-        Ok(found) => found == Some(wanted),
-        Err(AllocError) => false,
-    }
-}
-
 /// Makes a list of the errors of a test: `count` errors in reading from it, the signal that ended it,
-/// and the part of its output that explains its failure. The list must have `wanted` errors.
+/// and the part of its output that explains its failure.
 pub(crate) fn list_of_errors(
     alloc: Global,
     kinds: Kinds,
     count: u32,
-    wanted: usize,
 ) -> Result<Outcome, AllocError> {
+    let messages = causes(alloc, count)?;
     let output = described(alloc, count)?;
-    Ok(match length(alloc, kinds, &output) {
-        Ok(found) => Outcome::RightAnswer.only_if(found == Some(wanted)),
+    Ok(match is_made(alloc, kinds, &output, messages.as_slice()) {
+        Ok(is_right) => Outcome::RightAnswer.only_if(is_right),
         Err(AllocError) => {
-            Outcome::OutOfMemory.only_if(has_length(alloc, kinds, &output, wanted))
+            let again = is_made(alloc, kinds, &output, messages.as_slice());
+            Outcome::OutOfMemory.only_if(matches!(again, Ok(true)))
         }
     })
 }
@@ -67,8 +117,17 @@ pub(crate) fn no_errors(alloc: Global) -> Outcome {
         errors: None,
     };
     Outcome::RightAnswer.only_if(
-        has_length(alloc, Kinds::All, &output, 0)
-            && has_length(alloc, Kinds::ExecFail, &output, 0)
-            && has_length(alloc, Kinds::ChildProcess, &output, 0),
+        has_no_list(alloc, Kinds::All, &output)
+            && has_no_list(alloc, Kinds::ExecFail, &output)
+            && has_no_list(alloc, Kinds::ChildProcess, &output),
     )
+}
+
+/// Returns true if a test has no list of these errors, and this takes no memory.
+fn has_no_list(alloc: Global, kinds: Kinds, output: &Description) -> bool {
+    if !UnitErrorDescription::can_describe(UnitKind::Test, output) {
+        return false;
+    }
+    let errors = UnitErrorDescription::new(UnitKind::Test, output);
+    matches!(kinds.list(alloc, errors), Ok(None))
 }

@@ -6,9 +6,9 @@
 /// a server blocks the style sheet, a bar is its numbers, so there is a space after each. The list `open` has at most one
 /// item, because a second one would repeat an attribute.
 ///
-/// A text of a test is divided into pieces, each plain or coloured. The classes of a coloured piece are `c0` to `c15` for
-/// the colour of its characters, `g0` to `g15` for the colour behind them, and `b`, `d`, `i` and `u` for bold, dim, italic
-/// and underlined. Characters of each colour can be read on each colour behind them, so white on a light page is dark.
+/// A text of a test is a list of pieces, plain or coloured. A coloured piece has classes: `c0` to `c15` for its colour,
+/// `g0` to `g15` for its background, and `b`, `d`, `i` and `u` for bold, dim, italic and underlined. Each colour can be
+/// read on each background: on a light page, for example, white characters are dark.
 pub const PAGE: &str = r#"<html lang="en">
 <head>
 <meta charset="utf-8"/>

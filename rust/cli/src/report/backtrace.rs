@@ -297,7 +297,7 @@ Stack backtrace:
             ("a::f", Some("x"), (false, false)),
             (
                 "a::f",
-                Some("/home/x/.cargo/registry/src/b-1.0/src/a.rs:1:2"),
+                Some("/x/.cargo/registry/src/b-1.0/src/a.rs:1:2"),
                 (false, false),
             ),
             (

@@ -5,9 +5,33 @@ use std::time::Duration;
 
 use deodarsieve::{
     ChildExecutionOutputDescription, ChildOutputDescription, ExecuteStatus,
-    ExecutionResultDescription, FailureDescription, LiveSpec, Moment, OutputSpec, RetryData,
-    SerializableError, SetupScriptExecuteStatus,
+    ExecutionResultDescription, FailureDescription, FinalStatusLevel, LiveSpec, Moment, OutputSpec,
+    RetryData, SerializableError, SetupScriptExecuteStatus, StatusLevel,
 };
+
+/// All status levels, the least first.
+pub const STATUS_LEVELS: [StatusLevel; 8] = [
+    StatusLevel::None,
+    StatusLevel::Fail,
+    StatusLevel::Retry,
+    StatusLevel::Slow,
+    StatusLevel::Leak,
+    StatusLevel::Pass,
+    StatusLevel::Skip,
+    StatusLevel::All,
+];
+
+/// All final levels, the least first.
+pub const FINAL_LEVELS: [FinalStatusLevel; 8] = [
+    FinalStatusLevel::None,
+    FinalStatusLevel::Fail,
+    FinalStatusLevel::Flaky,
+    FinalStatusLevel::Slow,
+    FinalStatusLevel::Skip,
+    FinalStatusLevel::Leak,
+    FinalStatusLevel::Pass,
+    FinalStatusLevel::All,
+];
 
 /// A failure with exit code 101.
 pub fn failed() -> ExecutionResultDescription {

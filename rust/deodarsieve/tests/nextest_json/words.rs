@@ -2,6 +2,7 @@
 
 use std::fmt::Debug;
 
+use crate::common::{FINAL_LEVELS, STATUS_LEVELS};
 use crate::{are_words, is_json, read, refusal};
 use deodarsieve::*;
 use serde::de::DeserializeOwned;
@@ -63,34 +64,17 @@ fn levels_are_read_from_words() {
         "none", "fail", "retry", "slow", "leak", "pass", "skip", "all",
     ]
     .map(|word| read::<StatusLevel>(&format!("{word:?}")));
-    let wanted = [
-        StatusLevel::None,
-        StatusLevel::Fail,
-        StatusLevel::Retry,
-        StatusLevel::Slow,
-        StatusLevel::Leak,
-        StatusLevel::Pass,
-        StatusLevel::Skip,
-        StatusLevel::All,
-    ];
-    assert_eq!(levels, wanted);
+    assert_eq!(levels, STATUS_LEVELS);
 
     let final_levels = [
-        "none", "fail", "flaky", "slow", "skip", "leak", "pass", "all", "retry",
+        "none", "fail", "flaky", "slow", "skip", "leak", "pass", "all",
     ]
     .map(|word| read::<FinalStatusLevel>(&format!("{word:?}")));
-    let wanted = [
-        FinalStatusLevel::None,
-        FinalStatusLevel::Fail,
-        FinalStatusLevel::Flaky,
-        FinalStatusLevel::Slow,
-        FinalStatusLevel::Skip,
-        FinalStatusLevel::Leak,
-        FinalStatusLevel::Pass,
-        FinalStatusLevel::All,
-        FinalStatusLevel::Flaky,
-    ];
-    assert_eq!(final_levels, wanted);
+    assert_eq!(final_levels, FINAL_LEVELS);
+    assert_eq!(
+        read::<FinalStatusLevel>("\"retry\""),
+        FinalStatusLevel::Flaky
+    );
 }
 
 #[test]

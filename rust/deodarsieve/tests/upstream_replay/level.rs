@@ -2,32 +2,9 @@
 //!
 //! A case is `RESULT ATTEMPTS SETTING SLOW LEVEL FINAL_LEVEL`.
 
+use crate::common::{FINAL_LEVELS, STATUS_LEVELS};
 use crate::unit::test_in;
 use deodarsieve::{FinalStatusLevel, StatusLevel};
-
-/// All status levels, the least first.
-pub const STATUS_LEVELS: [StatusLevel; 8] = [
-    StatusLevel::None,
-    StatusLevel::Fail,
-    StatusLevel::Retry,
-    StatusLevel::Slow,
-    StatusLevel::Leak,
-    StatusLevel::Pass,
-    StatusLevel::Skip,
-    StatusLevel::All,
-];
-
-/// All final levels, the least first.
-pub const FINAL_LEVELS: [FinalStatusLevel; 8] = [
-    FinalStatusLevel::None,
-    FinalStatusLevel::Fail,
-    FinalStatusLevel::Flaky,
-    FinalStatusLevel::Slow,
-    FinalStatusLevel::Skip,
-    FinalStatusLevel::Leak,
-    FinalStatusLevel::Pass,
-    FinalStatusLevel::All,
-];
 
 /// Returns the level that a word names.
 pub fn named_level(word: &str) -> Option<StatusLevel> {

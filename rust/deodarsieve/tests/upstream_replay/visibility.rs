@@ -8,7 +8,7 @@
 //! levels are in order, the least first. Every pair of a letter in LINES and a letter in OUTPUTS is
 //! compared.
 
-use crate::level::{FINAL_LEVELS, STATUS_LEVELS};
+use crate::common::{FINAL_LEVELS, STATUS_LEVELS};
 use crate::words::named_reason;
 use deodarsieve::{
     AbortDescription, CancelReason, ExecutionResultDescription, FailureDescription,

@@ -1,5 +1,5 @@
-//! Tests of the layer through its public calls: runs, attempts, views, what is shown, long errors, orders,
-//! and the events, each of which is made and read back.
+//! Tests of the layer through its public calls: runs, attempts, views, what is shown, long errors and
+//! orders. Each kind of event is made and read back.
 
 mod attempts;
 mod chain;

@@ -46,11 +46,17 @@ fn sub_runs_are_ordered_by_their_numbers() {
 }
 
 #[test]
-fn equal_sub_runs_have_one_hash() {
+fn the_hash_of_a_sub_run_is_that_of_its_numbers() {
     let hash = |sub_run: StressIndex| {
         let mut hasher = DefaultHasher::new();
         sub_run.hash(&mut hasher);
         hasher.finish()
     };
+    let known = StressIndex {
+        total: NonZero::new(1),
+        ..sub_run(0)
+    };
     assert_eq!(hash(sub_run(0)), hash(sub_run(0)));
+    assert_ne!(hash(sub_run(0)), hash(sub_run(1)));
+    assert_ne!(hash(sub_run(0)), hash(known));
 }
