@@ -7,7 +7,7 @@ use run_events::chain::SerializableError;
 use run_events::child::{
     ChildError, ChildErrorDescription, ChildExecutionOutput, ChildExecutionOutputDescription,
     ChildFdError, ChildOutput, ChildOutputDescription, ChildSingleOutput, ChildSplitOutput,
-    ChildStartError, ErrorList, LiveSpec,
+    ChildStartError, ErrorList, LiveSpec, Refused,
 };
 use run_events::results::{
     AbortStatus, ExecutionResult, ExecutionResultDescription, FailureStatus,
@@ -124,29 +124,46 @@ fn is_wanted(described: &Description, wanted: &Wanted) -> bool {
     }
 }
 
-pub(crate) fn from_output(alloc: Global) -> Result<Outcome, AllocError> {
-    let wanted = what_is_wanted(alloc, 2)?;
-    let name = String::from_str(alloc, "TERM")?;
-    let output = ended(alloc, 2)?;
-    Ok(match Description::from_output(alloc, output, Some(name)) {
-        Ok(described) => Outcome::RightAnswer.only_if(is_wanted(&described, &wanted)),
-        // Output and name are returned unchanged, so their description is the same as at first.
-        Err(refused) => match Description::from_output(alloc, refused.output, refused.name) {
-            Ok(described) => Outcome::OutOfMemory.only_if(is_wanted(&described, &wanted)),
-            Err(_) => Outcome::WrongAnswer,
-        },
-    })
+/// Returns true if output is described as wanted. Fails if memory runs out, and gives back what it was passed.
+fn is_described(
+    alloc: Global,
+    output: ChildExecutionOutput,
+    name: Option<String>,
+    wanted: &Wanted,
+) -> Result<bool, Refused> {
+    let described = Description::from_output(alloc, output, name)?;
+    Ok(is_wanted(&described, wanted))
 }
 
-/// Returns true if output without errors is described, which takes no memory.
-fn is_output_described(alloc: Global) -> Result<bool, AllocError> {
-    let wanted = what_is_wanted(alloc, 0)?;
+/// Returns true if what a call gave back is described as wanted: output and name are unchanged, so their description is
+/// the same as at first.
+fn is_described_again(alloc: Global, refused: Refused, wanted: &Wanted) -> bool {
+    is_described(alloc, refused.output, refused.name, wanted).unwrap_or(false)
+}
+
+/// Returns the outcome of describing output, with the name of the signal that ended the process.
+fn outcome_of(
+    alloc: Global,
+    output: ChildExecutionOutput,
+    name: String,
+    wanted: &Wanted,
+) -> Outcome {
+    match is_described(alloc, output, Some(name), wanted) {
+        Ok(is_right) => Outcome::RightAnswer.only_if(is_right),
+        Err(refused) => Outcome::OutOfMemory.only_if(is_described_again(alloc, refused, wanted)),
+    }
+}
+
+/// Returns the outcome of describing the output of [`ended`]. Fails if memory runs out before the call.
+fn ended_outcome(alloc: Global, count: u32) -> Result<Outcome, AllocError> {
+    let wanted = what_is_wanted(alloc, count)?;
     let name = String::from_str(alloc, "TERM")?;
-    let output = ended(alloc, 0)?;
-    Ok(match Description::from_output(alloc, output, Some(name)) {
-        Ok(described) => is_wanted(&described, &wanted),
-        Err(_) => false,
-    })
+    Ok(outcome_of(alloc, ended(alloc, count)?, name, &wanted))
+}
+
+/// Describes output with two errors.
+pub(crate) fn from_output(alloc: Global) -> Result<Outcome, AllocError> {
+    ended_outcome(alloc, 2)
 }
 
 /// Returns true if this describes a process that was not started, by an error with the message `s`.
@@ -159,19 +176,17 @@ fn is_not_started(described: &Description) -> bool {
     }
 }
 
-/// Returns true if an error in starting a process is described, which takes no memory.
-fn is_start_error_described(alloc: Global) -> Result<bool, AllocError> {
-    let source = error(alloc, String::from_str(alloc, "s")?)?;
+/// Returns true if an error in starting a process is described as it should be. Fails if memory runs out.
+fn is_start_error_described(alloc: Global, source: SerializableError) -> Result<bool, Refused> {
     let output = ChildExecutionOutput::StartError(ChildStartError::Spawn(source));
-    Ok(match Description::from_output(alloc, output, None) {
-        Ok(described) => is_not_started(&described),
-        Err(_) => false,
-    })
+    let described = Description::from_output(alloc, output, None)?;
+    Ok(is_not_started(&described))
 }
 
 /// Describes output without errors, and an error in starting a process. This takes no memory.
 pub(crate) fn from_output_without_errors(alloc: Global) -> Result<Outcome, AllocError> {
-    let is_output_described = is_output_described(alloc)?;
-    let is_start_error_described = is_start_error_described(alloc)?;
-    Ok(Outcome::RightAnswer.only_if(is_output_described && is_start_error_described))
+    let source = error(alloc, String::from_str(alloc, "s")?)?;
+    let outcome = ended_outcome(alloc, 0)?;
+    let is_right = is_start_error_described(alloc, source).unwrap_or(false);
+    Ok(outcome.only_if(is_right))
 }

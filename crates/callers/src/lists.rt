@@ -91,6 +91,18 @@ fn is_made(
     }
 }
 
+/// Makes a list of the errors of a test. If memory runs out, it makes the list again: what it borrowed must be
+/// unchanged.
+fn outcome_of(alloc: Global, kinds: Kinds, output: &Description, messages: &[String]) -> Outcome {
+    match is_made(alloc, kinds, output, messages) {
+        Ok(is_right) => Outcome::RightAnswer.only_if(is_right),
+        Err(AllocError) => {
+            let is_right = is_made(alloc, kinds, output, messages).unwrap_or(false);
+            Outcome::OutOfMemory.only_if(is_right)
+        }
+    }
+}
+
 /// Makes a list of the errors of a test: `count` errors in reading from it, the signal that ended it,
 /// and the part of its output that explains its failure.
 pub(crate) fn list_of_errors(
@@ -100,13 +112,7 @@ pub(crate) fn list_of_errors(
 ) -> Result<Outcome, AllocError> {
     let messages = causes(alloc, count)?;
     let output = described(alloc, count)?;
-    Ok(match is_made(alloc, kinds, &output, messages.as_slice()) {
-        Ok(is_right) => Outcome::RightAnswer.only_if(is_right),
-        Err(AllocError) => {
-            let again = is_made(alloc, kinds, &output, messages.as_slice());
-            Outcome::OutOfMemory.only_if(matches!(again, Ok(true)))
-        }
-    })
+    Ok(outcome_of(alloc, kinds, &output, messages.as_slice()))
 }
 
 /// Makes the three lists of a test that passed, which are empty. This takes no memory.
