@@ -2,12 +2,15 @@
 
 `rt ci` proves a crate from nothing and keeps no proof. Here each crate except programs has a new folder, FOLDER/CRATE,
 in which the prover keeps what it proves. So the crate is proved from nothing as well. A library is built with its
-proofs, and a verdict may say that it was reached over such a folder. All else is as in `rt ci`: the words that it
-refuses, contracts that no call can meet, both compilers, and the runs of programs.
+proofs, and a verdict may say that it was reached over such a folder. What a run passed is kept for later runs of this
+tool, and not for a plain `rt ci`. Each crate is proved by one process, and as many crates at the same time as there are
+processors and memory. All else is as in `rt ci`: the words that it refuses, contracts that no call can meet, both
+compilers, and the runs of programs.
 """
 
 import importlib.machinery
 import importlib.util
+import os
 import shutil
 import sys
 
@@ -39,9 +42,14 @@ class Verdict:
 
 def main(folder, *words):
     """Runs `rt ci` and returns its exit status."""
+    # By its own estimate of memory, `rt` leaves processors idle, or gives several to one crate. Each process of a crate
+    # reads all libraries, which takes more processor time in all.
+    os.environ.setdefault("RT_JOBS", str(compiler.lanes()))
     rt = loaded(f"{compiler.kit()}/bin/rt")
-    prove = rt.Crate.prove
+    prove, own_sum = rt.Crate.prove, rt.own_sum
     rt.rtlib.VERDICT = Verdict(rt.rtlib.VERDICT)
+    # A plain `rt ci` takes no library that was built here, and none that it built is taken here.
+    rt.own_sum = lambda crate: own_sum(crate) + KEPT
 
     def prove_and_keep(crate, *commands):
         if crate.is_program:
