@@ -2,9 +2,7 @@
 //! they get, and that no temporary file stays.
 #![cfg(unix)]
 
-mod common;
-
-use common::{Folder, Running, command, path_of, run, start, wait_for};
+use crate::common::{self, Folder, Running, command, path_of, run, start, wait_for};
 use std::fs::{self, Permissions};
 use std::io::{self, Write};
 use std::os::unix::fs::{PermissionsExt, symlink};
@@ -324,8 +322,13 @@ fn a_second_signal_while_a_file_is_written_leaves_nothing_behind() {
         stdout,
         stderr,
     } = start(&["--junit", &folder.file("a")]);
-    // It takes a while to write the output of this test.
-    let output = "line\\n".repeat(4_000_000);
+    // It takes a while to write the output of this test. A program that is not optimized takes as long for a tenth of it.
+    let lines = if cfg!(debug_assertions) {
+        400_000
+    } else {
+        4_000_000
+    };
+    let output = "line\\n".repeat(lines);
     let failed = format!(
         "{}{{ \"type\": \"test\", \"name\": \"adds\", \"event\": \"failed\", \"stdout\": \"{output}\" }}\n",
         RUN.lines().take(2).collect::<Vec<_>>().join("\n") + "\n"
