@@ -1,8 +1,6 @@
 //! Arguments of both programs: those that are refused, `--help` and `--version`.
 
-mod common;
-
-use common::{Folder, assert_output, end_of_text, run};
+use crate::common::{self, Folder, assert_output, end_of_text, run};
 use std::path::Path;
 use std::process::Output;
 

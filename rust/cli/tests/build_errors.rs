@@ -1,9 +1,7 @@
 //! Builds of small packages that fail or warn, with a real cargo.
 #![cfg(unix)]
 
-mod common;
-
-use common::{Folder, as_user, command};
+use crate::common::{self, Folder, as_user, command};
 use std::path::Path;
 use std::process::{Command, Output};
 

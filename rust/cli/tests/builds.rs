@@ -1,9 +1,7 @@
 //! What `test-report -- cargo test` runs before the tests: a cargo that builds them. The cargo here is a script.
 #![cfg(unix)]
 
-mod common;
-
-use common::{Folder, Running, command, read_until, soon, started, wait_for};
+use crate::common::{self, Folder, Running, command, read_until, soon, started, wait_for};
 use std::fs;
 use std::process::{Command, Output};
 

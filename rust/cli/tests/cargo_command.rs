@@ -1,9 +1,7 @@
 //! `test-report -- cargo test` and `cargo test-report`, with a real cargo.
 #![cfg(unix)]
 
-mod common;
-
-use common::{Folder, as_user, command};
+use crate::common::{Folder, as_user, command};
 use std::fs;
 use std::path::Path;
 use std::process::{Command, Output};

@@ -2,9 +2,7 @@
 //! take the place of test programs and of rustdoc.
 #![cfg(unix)]
 
-mod common;
-
-use common::{Folder, command};
+use crate::common::{Folder, command};
 use std::fs;
 use std::process::Command;
 

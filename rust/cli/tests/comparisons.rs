@@ -1,8 +1,6 @@
 //! `--compare`: which failures are new and which are fixed since an earlier run.
 
-mod common;
-
-use common::{Folder, assert_output, run};
+use crate::common::{Folder, assert_output, run};
 use std::fs;
 
 /// The earlier run: `asks` and `new` pass, `adds` and `still` fail, and `skips` is skipped. The other suite is not in the

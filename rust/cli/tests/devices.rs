@@ -1,8 +1,6 @@
 //! Reads and writes of both programs that fail or are interrupted, and inputs that are not UTF-8.
 
-mod common;
-
-use common::{assert_output, command, end_of_text, path_of, run};
+use crate::common::{self, assert_output, command, end_of_text, path_of, run};
 use deodarsieve_cli::program::{KeepError, run_engine};
 use deodarsieve_cli::run_digest_engine::count::count;
 use std::io::{self, ErrorKind, Read, Write};

@@ -3,7 +3,10 @@
 //! An input NAME has its arguments in NAME.args, one per line, and what the program does in
 //! NAME.stdout, NAME.stderr and NAME.status. A file that is absent means no arguments, no text, or 0.
 //! The inputs are the samples of this package and, inside the repository, its examples.
+//!
+//! This is a test program of its own, because `./check --quick` builds no other one, in a release build.
 
+#[allow(dead_code, reason = "the other tests call the rest")]
 mod common;
 
 use common::{assert_output, run_on_file};

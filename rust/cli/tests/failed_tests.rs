@@ -1,9 +1,7 @@
 //! `--failed`: the list of the tests that failed last, and a run of them alone.
 #![cfg(unix)]
 
-mod common;
-
-use common::{Folder, as_user, command, run};
+use crate::common::{Folder, as_user, command, run};
 use serde_json::{Value, json};
 use std::collections::BTreeSet;
 use std::fs;

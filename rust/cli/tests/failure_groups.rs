@@ -1,8 +1,6 @@
 //! Failed tests in documents: those with one cause are one entry, and a page closes its entries if there are many.
 
-mod common;
-
-use common::run;
+use crate::common::{self, run};
 
 /// Returns a test that fails with this output, as lines of a run.
 fn failed(name: &str, output: &str) -> String {

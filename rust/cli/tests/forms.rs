@@ -1,8 +1,6 @@
 //! The forms of `test-report` that are written at the end, on standard output and to files.
 
-mod common;
-
-use common::{Folder, run};
+use crate::common::{self, Folder, run};
 use std::fs;
 use std::path::Path;
 

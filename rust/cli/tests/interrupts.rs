@@ -1,9 +1,9 @@
 //! What `test-report` does after Ctrl-C and SIGTERM.
 #![cfg(unix)]
 
-mod common;
-
-use common::{Folder, Running, command, end_of_text, read_until, soon, start, started, wait_for};
+use crate::common::{
+    self, Folder, Running, command, end_of_text, read_until, soon, start, started, wait_for,
+};
 use std::fs::{self, OpenOptions};
 use std::io::{self, Read, Write};
 use std::os::unix::process::ExitStatusExt;

@@ -1,8 +1,6 @@
 //! The form `json` on stored runs: one line, which `serde_json` reads, with the numbers of the form `text`.
 
-mod common;
-
-use common::run;
+use crate::common::run;
 use deodarsieve_cli::report_text::ReportText;
 use serde_json::Value;
 use std::fs;

@@ -1,9 +1,7 @@
 //! The run that is kept in cargo's target folder, cargo's colours, and cargo's words about failures.
 #![cfg(unix)]
 
-mod common;
-
-use common::{Folder, as_user, command};
+use crate::common::{self, Folder, as_user, command};
 use serde_json::Value;
 use std::fs;
 use std::process::{Command, Output};

@@ -1,9 +1,7 @@
 //! What SIGTERM to `test-report` alone leaves behind, with a real cargo: nothing.
 #![cfg(target_os = "linux")]
 
-mod common;
-
-use common::{Folder, as_user, command, path_of, soon};
+use crate::common::{Folder, as_user, command, path_of, soon};
 use std::fs;
 use std::path::Path;
 use std::process::{Command, Output};
@@ -146,8 +144,8 @@ const LEAVES: &str = "\
 sleep 100
 ";
 
-#[test]
-fn sigterm_ends_what_a_command_leaves_behind() {
+/// Ends a command by SIGTERM, and returns how long the report takes until it ends, too.
+fn time_to_end() -> Duration {
     let folder = Folder::new("left-command");
     let mut command = command("test-report", &["--", "sh", "-c", LEAVES]);
     let child = command.current_dir(&folder.0).spawn();
@@ -161,10 +159,16 @@ fn sigterm_ends_what_a_command_leaves_behind() {
     let start = Instant::now();
     send("TERM", child.id());
     let output = soon("the end of the program", move || child.wait_with_output());
+    let time = start.elapsed();
     assert_eq!(output.expect("the program ends").status.code(), Some(1));
-    // It does not wait until the output was quiet for two seconds.
-    assert!(start.elapsed() < Duration::from_secs(2));
     assert!(folder.0.join("ended").exists());
+    time
+}
+
+#[test]
+fn sigterm_ends_what_a_command_leaves_behind() {
+    // It does not wait until the output was quiet for two seconds. On a busy machine it may take longer once.
+    assert!((0..3).any(|_| time_to_end() < Duration::from_secs(2)));
 }
 
 /// A shell that starts a process, writes its number to a file, and becomes another program.

@@ -1,9 +1,7 @@
 //! What `test-report` writes while its input is open, its line of progress, and how it ends if its reader
 //! stops early.
 
-mod common;
-
-use common::{read_until, run, start, wait_for};
+use crate::common::{self, read_until, run, start, wait_for};
 use std::io::{Read, Write};
 use std::time::{Duration, Instant};
 

@@ -1,9 +1,7 @@
 //! Packages whose manifests cargo can read and the crate `toml` cannot, with a real cargo.
 #![cfg(unix)]
 
-mod common;
-
-use common::{Folder, as_user, command};
+use crate::common::{Folder, as_user, command};
 use std::fs;
 
 /// A manifest with parts that follow its tables.

@@ -2,9 +2,7 @@
 //! writes.
 #![cfg(target_os = "linux")]
 
-mod common;
-
-use common::{Folder, command};
+use crate::common::{Folder, command};
 use std::fs;
 use std::io::{BufRead, BufReader, Write};
 use std::process::Stdio;

@@ -1,9 +1,7 @@
 //! What a test program sees of the process that it is under `test-report`, beside what it sees under `cargo test`.
 #![cfg(target_os = "linux")]
 
-mod common;
-
-use common::{Folder, command, restore_interrupt};
+use crate::common::{Folder, command, restore_interrupt};
 use std::collections::BTreeMap;
 use std::fs::{self, File};
 use std::process::Command;

@@ -1,8 +1,6 @@
 //! How the forms show what lines of programs, and of the command that runs them, say.
 
-mod common;
-
-use common::{Folder, end_of_text, run};
+use crate::common::{Folder, end_of_text, run};
 use std::fs;
 
 /// The first line of a run.

@@ -1,9 +1,7 @@
 //! `--retries`: failed tests that run again, each alone.
 #![cfg(unix)]
 
-mod common;
-
-use common::{Folder, as_user, command, run};
+use crate::common::{self, Folder, as_user, command, run};
 use serde_json::{Value, json};
 use std::fs;
 use std::os::unix::process::CommandExt;

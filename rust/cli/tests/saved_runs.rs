@@ -1,9 +1,7 @@
 //! `--save`: the lines of a run as they come, and what `test-report -- cargo test` puts among them.
 #![cfg(unix)]
 
-mod common;
-
-use common::{Folder, Running, as_user, command, run, soon, started, wait_for};
+use crate::common::{self, Folder, Running, as_user, command, run, soon, started, wait_for};
 use serde_json::{Value, json};
 use std::fs;
 use std::io;

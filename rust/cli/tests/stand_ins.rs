@@ -1,9 +1,7 @@
 //! What takes the place of a test program: it starts the program, stays, writes what it sees, and ends as the program did.
 #![cfg(unix)]
 
-mod common;
-
-use common::{Folder, command, path_of, read_until, restore_interrupt, soon, wait_for};
+use crate::common::{Folder, command, path_of, read_until, restore_interrupt, soon, wait_for};
 use serde_json::{Value, json};
 use std::ffi::OsStr;
 use std::fs;

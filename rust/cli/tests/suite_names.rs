@@ -1,9 +1,7 @@
 //! The names of suites in a run of `cargo test`, with a real cargo.
 #![cfg(unix)]
 
-mod common;
-
-use common::{Folder, as_user, command};
+use crate::common::{Folder, as_user, command};
 use std::path::Path;
 
 /// A workspace of three packages. Two have a file of the same name with tests.

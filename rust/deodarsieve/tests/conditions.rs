@@ -2,11 +2,9 @@
 //! that tests the condition. That function agrees that the condition is not met. Nothing was
 //! changed before the panic.
 
-mod common;
-
 use std::panic::{AssertUnwindSafe, catch_unwind};
 
-use common::{attempt, failed, not_loaded, script};
+use crate::common::{attempt, failed, not_loaded, script};
 use deodarsieve::counted::{ByteSource, CountedBytes};
 use deodarsieve::{
     ChildOutputDescription, EmptyStatuses, ExecutionDescription, ExecutionResultDescription,

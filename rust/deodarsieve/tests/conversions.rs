@@ -1,9 +1,7 @@
 //! Conversions from the values of a runner to the descriptions that reporters get.
 
-mod common;
-
+use crate::common::caused;
 use bytes::Bytes;
-use common::caused;
 use deodarsieve::{
     AbortDescription, AbortStatus, ChildError, ChildErrorDescription, ChildExecutionOutput,
     ChildExecutionOutputDescription, ChildFdError, ChildOutput, ChildOutputDescription,

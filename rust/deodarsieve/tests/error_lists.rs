@@ -1,12 +1,10 @@
 //! Lists of errors as errors, the errors of a unit, errors of the operating system, and captured
 //! text.
 
-mod common;
-
 use std::error::Error;
 
+use crate::common::{self, caused, failed};
 use bytes::Bytes;
-use common::{caused, failed};
 use deodarsieve::{
     AbortDescription, ChildErrorDescription, ChildExecutionOutputDescription,
     ChildOutputDescription, ChildSingleOutput, ChildStartErrorDescription, ErrorList,

@@ -1,10 +1,8 @@
 //! A first program of a runner: attempts from results, times and captured bytes.
 
-mod common;
-
 use std::time::Duration;
 
-use common::failed;
+use crate::common::failed;
 use deodarsieve::{
     AbortStatus, ChildExecutionOutputDescription, ChildOutputDescription, ErrorSummary,
     ExecuteStatus, ExecutionResult, ExecutionResultDescription, ExecutionStatuses, FailureStatus,

@@ -1,5 +1,8 @@
 //! A panic names the place of the call whose condition is not met, and no place in the crate.
+//!
+//! This is a test program of its own, because it sets the panic hook of its process.
 
+#[allow(dead_code, reason = "the other tests use the rest")]
 mod common;
 
 use std::panic::{self, AssertUnwindSafe, catch_unwind};

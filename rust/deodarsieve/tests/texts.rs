@@ -1,12 +1,10 @@
 //! Texts of `Display` and `Debug` that are those of nextest's types. A type here with the same
 //! derived traits says what a derived `Debug` writes.
 
-mod common;
-
 use std::time::Duration;
 
+use crate::common::caused;
 use bytes::Bytes;
-use common::caused;
 use deodarsieve::{
     ByteSubslice, ChildSingleOutput, NonZeroDuration, SerializableError, TestOutputErrorSlice,
 };

@@ -1,11 +1,9 @@
 //! The traits of `std` that the types have, called as a user calls them.
 
-mod common;
-
 use std::collections::{BTreeMap, HashMap};
 use std::error::Error;
 
-use common::{attempt_with, caused, failed};
+use crate::common::{attempt_with, caused, failed};
 use deodarsieve::{
     AbortDescription, ChildError, ChildErrorDescription, ChildExecutionOutputDescription,
     ChildFdError, ChildStartError, ChildStartErrorDescription, EmptyStatuses, ErrorList,

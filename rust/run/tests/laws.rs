@@ -1,9 +1,7 @@
 //! The laws of the first page, on stored runs and on runs made from them by leaving out lines, repeating them and
 //! exchanging them.
 
-mod common;
-
-use common::{SLOW, finish, take};
+use crate::common::{SLOW, finish, take};
 use deodarsieve_run::{
     Event, FailureKind, Line, Note, RunFailureStep, RunOutcome, TestOutcome, TestResult, TestRun,
     failed_count,

@@ -1,11 +1,9 @@
 //! Great numbers, and errors.
 
-mod common;
-
 use std::error::Error;
 use std::rc::Rc;
 
-use common::{SLOW, finish, take};
+use crate::common::{SLOW, finish, take};
 use deodarsieve_run::{
     CounterFull, Crash, Disagreement, FailureKind, Finish, FinishedTest, Note, RunError, RunStats,
     SuiteNames, TestRun, failed_count, finished_test,

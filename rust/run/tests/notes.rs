@@ -1,14 +1,11 @@
 //! What each kind of line makes known. The runs of Rust's harness in `samples/` are stored as it wrote them, except that
 //! absolute paths were replaced.
 
-mod common;
-mod note_lines;
-
+use crate::note_lines::{lines_of, read};
 use deodarsieve_run::{
     Crash, Disagreement, FailureKind, Note, RunFailureStep, RunOutcome, RunStats, TestNote,
     TestOutcome,
 };
-use note_lines::{lines_of, read};
 
 /// The outcome of a run that failed.
 const FAILED: RunOutcome = RunOutcome::Failed {

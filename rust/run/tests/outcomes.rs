@@ -1,16 +1,13 @@
 //! What decides the outcome and the exit status: tests, files, and the end of a command.
 
-mod common;
-mod note_lines;
-
 use std::collections::VecDeque;
 
-use common::{SLOW, finish, take};
+use crate::common::{SLOW, finish, take};
+use crate::note_lines::{lines_of, read};
 use deodarsieve_run::{
     CancelReason, CommandEnd, Note, RunFailureStep, RunNumbers, RunOutcome, SuiteNames, TestRun,
     exit_status,
 };
-use note_lines::{lines_of, read};
 
 /// The outcome of a run that failed.
 const FAILED: RunOutcome = RunOutcome::Failed {

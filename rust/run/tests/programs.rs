@@ -1,15 +1,12 @@
 //! What lines of programs, and of the command that runs them, make known.
 
-mod common;
-mod note_lines;
-
-use common::{SLOW, finish, take};
+use crate::common::{SLOW, finish, take};
+use crate::note_lines::{lines_of, read};
 use deodarsieve_run::{
     CancelReason, Crash, Disagreement, EarlyEnd, FailureKind, Finished, Line, Note, ProgramEnd,
     ProgramFault, ProgramLine, ProgramRun, RunFailureStep, RunOutcome, SuiteNames, TestOutcome,
     TestRun,
 };
-use note_lines::{lines_of, read};
 use std::collections::BTreeSet;
 
 /// The outcome of a run that failed.

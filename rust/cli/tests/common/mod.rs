@@ -1,8 +1,4 @@
 //! Running the programs.
-#![allow(
-    dead_code,
-    reason = "each file of tests is a program of its own, and calls only some of these"
-)]
 
 use std::env;
 use std::ffi::OsStr;
@@ -10,6 +6,7 @@ use std::fs::{self, File};
 use std::io::{Read, Write};
 use std::path::{Path, PathBuf};
 use std::process::{self, Child, ChildStderr, ChildStdin, ChildStdout, Command, Output, Stdio};
+use std::sync::atomic::{AtomicU32, Ordering};
 use std::sync::mpsc;
 use std::thread;
 use std::time::Duration;
@@ -41,7 +38,8 @@ pub fn command<A: AsRef<OsStr>>(program: &str, arguments: &[A]) -> Command {
 }
 
 /// Gives the programs that are started from now on the default action of Ctrl-C. A shell ignores it for the tests if they
-/// run in the background, and they would inherit that.
+/// run in the background, and they would inherit that. It is what the programs of all other tests have, too, if the tests
+/// run in the foreground.
 #[cfg(unix)]
 pub fn restore_interrupt() {
     use signal_hook::consts::SIGINT;
@@ -172,7 +170,10 @@ pub struct Folder(pub PathBuf);
 impl Folder {
     /// Creates a folder for a test.
     pub fn new(test: &str) -> Folder {
-        let name = format!("test-report-{}-{test}", process::id());
+        // Tests of two files may give the same name.
+        static COUNT: AtomicU32 = AtomicU32::new(0);
+        let number = COUNT.fetch_add(1, Ordering::Relaxed);
+        let name = format!("test-report-{}-{number}-{test}", process::id());
         let path = env::temp_dir().join(name);
         fs::create_dir(&path).expect("the folder is new");
         Folder(path)

@@ -1,7 +1,7 @@
 //! The comparison of a run with an earlier one, in each form that has it.
 
-use crate::facts::{Facts, failure_of, own_name, suite_of};
-use crate::written::{AMOUNTS, compared};
+use crate::properties::facts::{Facts, failure_of, own_name, suite_of};
+use crate::properties::written::{AMOUNTS, compared};
 use deodarsieve_cli::earlier_run::read_earlier_run;
 use deodarsieve_run::TestOutcome;
 use serde_json::{Value, json};

@@ -1,13 +1,13 @@
 //! The page and the summary.
 
-use crate::facts::{
+use crate::properties::facts::{
     Facts, Suite, escaped, failure_of, outcome, own_name, seconds, shown, status_of, suite_of,
     summary, without_colours, without_returns,
 };
-use crate::groups::{Group, attempts_of, differ, groups, heading, left_out};
-use crate::json::Shown;
-use crate::text::slowest_tests;
-use crate::xml::{Element, read, resolved};
+use crate::properties::groups::{Group, attempts_of, differ, groups, heading, left_out};
+use crate::properties::json::Shown;
+use crate::properties::text::slowest_tests;
+use crate::properties::xml::{Element, read, resolved};
 use deodarsieve::RunStats;
 use deodarsieve_run::{Note, TestNote, TestOutcome};
 
@@ -42,7 +42,7 @@ fn document_summary(facts: &Facts) -> String {
     let end = &facts.end;
     let line = summary(end);
     let line = line
-        .strip_prefix(&crate::facts::bracket(end.time))
+        .strip_prefix(&crate::properties::facts::bracket(end.time))
         .unwrap_or(&line);
     match end.time {
         Some(micros) => format!("{line}, in {}s", seconds(micros)),

@@ -1,7 +1,7 @@
 //! What is known of a run: its notes, by the package `deodarsieve-run`, and how the page on `test-report` says that
 //! names, times and contradictions are shown.
 
-use crate::SLOW;
+use crate::properties::SLOW;
 use deodarsieve::{CancelReason, RunOutcome};
 use deodarsieve_run::{
     CommandEnd, Disagreement, Event, Failure, FailureKind, Line, Note, ProgramEnd, ProgramFault,

@@ -1,7 +1,7 @@
 //! Runs that a generator writes. They have all that a harness can say, contradictions, damaged lines, lines of cargo, and
 //! texts that are meant to be taken for markup, for colours or for commands.
 
-use crate::random::Random;
+use crate::properties::random::Random;
 use serde_json::{Value, json};
 
 /// Pieces of names and of outputs.

@@ -1,6 +1,6 @@
 //! Runs that a generator writes, in which lines say how each program, and the command, started and ended.
 
-use crate::generated::Generator;
+use crate::properties::generated::Generator;
 use serde_json::{Value, json};
 
 /// Returns the files of a run. Each seed has a run of its own.

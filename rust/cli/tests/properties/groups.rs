@@ -1,11 +1,11 @@
 //! The failed tests of a run in the order and the groups of documents.
 
-use crate::documents::{said, shown_title, value};
-use crate::facts::{
+use crate::properties::documents::{said, shown_title, value};
+use crate::properties::facts::{
     Facts, own_name, seconds, status_of, suite_of, without_colours, without_returns,
 };
-use crate::json::{Shown, ShownFailure};
-use crate::text::Cause;
+use crate::properties::json::{Shown, ShownFailure};
+use crate::properties::text::Cause;
 use deodarsieve_run::{Failure, TestNote};
 
 /// Returns the attempts of a test in brackets, if there were several.

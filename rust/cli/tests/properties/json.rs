@@ -1,7 +1,7 @@
 //! The form `json`: read back, it has the facts of the run, with all lines whole. The other forms show the same without the
 //! middles of long lines.
 
-use crate::facts::{
+use crate::properties::facts::{
     Facts, MARKS, Suite, attempts_of, crash_end, failure_of, outcome, own_name, problem_line,
     stopped_lines, suite_of_problem, without_colours, without_returns,
 };
@@ -145,7 +145,7 @@ fn add(object: &mut Value, name: &str, value: Option<impl Into<Value>>) {
 
 /// Returns a time as JSON.
 fn time(micros: Option<u64>) -> Option<Value> {
-    let text = crate::facts::seconds(micros?);
+    let text = crate::properties::facts::seconds(micros?);
     Some(serde_json::from_str(&text).expect("a time is JSON"))
 }
 
@@ -494,7 +494,10 @@ pub fn limited(text: &str, options: Options) -> String {
 pub fn reason_of(test: &TestNote, failure: &Failure) -> String {
     let reason = match &failure.kind {
         FailureKind::TimedOut => Some(match test.time {
-            Some(micros) => format!("timed out after {}s", crate::facts::seconds(micros)),
+            Some(micros) => format!(
+                "timed out after {}s",
+                crate::properties::facts::seconds(micros)
+            ),
             None => "timed out".to_string(),
         }),
         FailureKind::Flaky => Some("flaky, and set to fail".to_string()),

@@ -1,11 +1,11 @@
 //! JUnit's XML.
 
-use crate::documents::{allowed, said, said_whole, value};
-use crate::facts::{
+use crate::properties::documents::{allowed, said, said_whole, value};
+use crate::properties::facts::{
     Facts, Suite, controlled, outcome, own_name, problem_line, seconds, shown, stopped_lines,
 };
-use crate::json::{Shown, ShownFailure};
-use crate::xml::{Element, read};
+use crate::properties::json::{Shown, ShownFailure};
+use crate::properties::xml::{Element, read};
 use deodarsieve_run::{Failure, FailureKind, Note, TestNote, TestOutcome};
 
 /// What is shown of a run, by its notes.
@@ -173,7 +173,7 @@ fn junit_suite(suite: &Suite<'_>, notes: &Notes<'_>) -> Element {
 
 /// Returns the problems of no suite as test cases. That no test ran is the last one.
 fn own_cases(facts: &Facts, notes: &Notes<'_>) -> Vec<Element> {
-    let is_own = |note: &&Note| crate::facts::suite_of_problem(note).is_none();
+    let is_own = |note: &&Note| crate::properties::facts::suite_of_problem(note).is_none();
     let own = facts.problems().map(|(note, _)| note).filter(is_own);
     let mut cases: Vec<_> = own.map(|note| case_of(note, "", notes)).collect();
     if let Some(line) = facts.cancelled_line() {

@@ -1,6 +1,6 @@
 //! Stored runs, and the same with damage.
 
-use crate::random::Random;
+use crate::properties::random::Random;
 use bstr::ByteSlice;
 use std::fs;
 use std::path::{Path, PathBuf};

@@ -2,9 +2,9 @@
 //! status follows from the outcome.
 
 use crate::common::{Folder, path_of, run};
-use crate::facts::{Facts, outcome};
-use crate::generated::run_of;
-use crate::written::Written;
+use crate::properties::facts::{Facts, outcome};
+use crate::properties::generated::run_of;
+use crate::properties::written::Written;
 use deodarsieve_cli::report::options::Options;
 use std::fs;
 use std::process::{Command, Output};

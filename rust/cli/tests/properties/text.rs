@@ -1,12 +1,12 @@
 //! The forms that are written while the run is read: `text`, `names`, `github`, and text with annotations.
 
-use crate::facts::{
+use crate::properties::facts::{
     Facts, MARKS, attempts_of, bracket, controlled, crash_end, is_stopped, outcome, own_name,
     problem_line, shown, status_of, summary, title, turns_writing, without_colours,
     without_returns,
 };
-use crate::json::{Place, Shown, ShownFailure, limited, reason_of, with_cut_lines};
-use crate::written::{SLOWEST, Written};
+use crate::properties::json::{Place, Shown, ShownFailure, limited, reason_of, with_cut_lines};
+use crate::properties::written::{SLOWEST, Written};
 use deodarsieve::{CancelReason, TestOutputErrorSlice};
 use deodarsieve_cli::report::options::Options;
 use deodarsieve_run::{Crash, Disagreement, Failure, FailureKind, Note, TestNote, TestOutcome};

@@ -1,7 +1,7 @@
 //! What reports of a run write, in all forms.
 
-use crate::SLOW;
-use crate::facts::lines_of;
+use crate::properties::SLOW;
+use crate::properties::facts::lines_of;
 use deodarsieve::{FinalStatusLevel, StatusLevel, TestOutputDisplay};
 use deodarsieve_cli::report::comparison::EarlierRun;
 use deodarsieve_cli::report::options::{Options, OutputDisplay};

@@ -1,5 +1,4 @@
 //! Values that several tests start from.
-#![allow(dead_code, reason = "each test program uses some of them")]
 
 use std::time::Duration;
 

@@ -4,8 +4,8 @@ use std::collections::BTreeMap;
 use std::time::Duration;
 
 use crate::common::{attempt_with, caused};
-use crate::errors::CAUSED;
-use crate::{Archive, FileName, is_json, read, refusal};
+use crate::nextest_json::errors::CAUSED;
+use crate::nextest_json::{Archive, FileName, is_json, read, refusal};
 use deodarsieve::output_spec::SerializableOutputSpec;
 use deodarsieve::*;
 

@@ -1,7 +1,7 @@
 //! Errors, and lists of them.
 
 use crate::common::caused;
-use crate::{Archive, is_json, read, refusal};
+use crate::nextest_json::{Archive, is_json, read, refusal};
 use deodarsieve::*;
 
 /// The JSON of the error `outer` with two causes.

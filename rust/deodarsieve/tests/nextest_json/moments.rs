@@ -1,6 +1,6 @@
 //! Moments, which are dates.
 
-use crate::{is_json, read, refusal};
+use crate::nextest_json::{is_json, read, refusal};
 use deodarsieve::Moment;
 
 #[test]

@@ -1,7 +1,7 @@
 //! The results of attempts.
 
 use crate::common::failed;
-use crate::{is_json, read};
+use crate::nextest_json::{is_json, read};
 use deodarsieve::*;
 
 #[test]

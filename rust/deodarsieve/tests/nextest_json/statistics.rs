@@ -3,7 +3,7 @@
 use std::num::NonZero;
 use std::time::Duration;
 
-use crate::{is_json, read, refusal};
+use crate::nextest_json::{is_json, read, refusal};
 use deodarsieve::*;
 
 /// Counters with different values, and their JSON. It has the names of the fields in their order, with

@@ -3,7 +3,7 @@
 use std::fmt::Debug;
 
 use crate::common::{FINAL_LEVELS, STATUS_LEVELS};
-use crate::{are_words, is_json, read, refusal};
+use crate::nextest_json::{are_words, is_json, read, refusal};
 use deodarsieve::*;
 use serde::de::DeserializeOwned;
 

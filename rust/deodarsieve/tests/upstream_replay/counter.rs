@@ -4,8 +4,8 @@
 //! are `NAME: NUMBER`, separated by a comma and a space. A counter that is not named is 0.
 
 use crate::fixtures::finished_script;
-use crate::unit::{Unit, test_in};
-use crate::words::named_result;
+use crate::upstream_replay::unit::{Unit, test_in};
+use crate::upstream_replay::words::named_result;
 use deodarsieve::{RunStart, RunStats};
 
 /// Returns the counters after a unit was counted from zero.

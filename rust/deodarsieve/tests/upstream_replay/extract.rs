@@ -3,7 +3,7 @@
 //! A case is `OUTPUT KIND START LEN` or `OUTPUT none`: bytes in hex, `-` for none, and the kind, the
 //! start and the length of the slice.
 
-use crate::hexadecimal::bytes_in;
+use crate::upstream_replay::hexadecimal::bytes_in;
 use deodarsieve::TestOutputErrorSlice;
 
 /// Returns the kind of a slice, its start and its length.

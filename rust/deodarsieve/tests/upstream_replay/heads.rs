@@ -4,7 +4,7 @@
 //! taken heads in order. The last of them is compared with the result of the counted search and of
 //! the search from the end.
 
-use crate::hexadecimal::bytes_in;
+use crate::upstream_replay::hexadecimal::bytes_in;
 use deodarsieve::counted::{CountedBytes, HeadSpan, last_head, last_panic_head};
 
 /// Returns the head that a word names.

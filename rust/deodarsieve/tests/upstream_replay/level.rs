@@ -3,7 +3,7 @@
 //! A case is `RESULT ATTEMPTS SETTING SLOW LEVEL FINAL_LEVEL`.
 
 use crate::common::{FINAL_LEVELS, STATUS_LEVELS};
-use crate::unit::test_in;
+use crate::upstream_replay::unit::test_in;
 use deodarsieve::{FinalStatusLevel, StatusLevel};
 
 /// Returns the level that a word names.

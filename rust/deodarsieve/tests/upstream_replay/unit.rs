@@ -1,7 +1,7 @@
 //! Finished units that cases name.
 
 use crate::fixtures::finished_test;
-use crate::words::{earlier_attempts, named_result, named_setting, named_truth};
+use crate::upstream_replay::words::{earlier_attempts, named_result, named_setting, named_truth};
 use deodarsieve::{ExecutionStatuses, FinishedUnit, LiveSpec, SetupScriptExecuteStatus};
 
 /// A finished unit.

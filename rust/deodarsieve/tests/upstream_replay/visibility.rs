@@ -9,7 +9,7 @@
 //! compared.
 
 use crate::common::{FINAL_LEVELS, STATUS_LEVELS};
-use crate::words::named_reason;
+use crate::upstream_replay::words::named_reason;
 use deodarsieve::{
     AbortDescription, CancelReason, ExecutionResultDescription, FailureDescription,
     OutputOnTestFinished, OutputStoreFinal, StatusLevels, TestOutputDisplay,

@@ -1,6 +1,6 @@
 //! What explains a failure of cargo.
 
-use crate::{GITHUB, OPTIONS, reported};
+use crate::reports::{GITHUB, OPTIONS, reported};
 use deodarsieve_cli::report::Format;
 use deodarsieve_cli::report::options::Options;
 

@@ -1,6 +1,6 @@
 //! The suite of a test, how tests count, and lines that contradict each other.
 
-use crate::{Case, OPTIONS, assert_reports, reported};
+use crate::reports::{Case, OPTIONS, assert_reports, reported};
 use deodarsieve_cli::report::Format;
 use deodarsieve_tests::reports::end_of_text;
 

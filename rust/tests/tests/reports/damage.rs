@@ -1,6 +1,6 @@
 //! A run that is cut short, or of which a byte is damaged.
 
-use crate::small_run::{PARTS, RUN, assert_report, report_of_nothing, report_of_run};
+use crate::reports::small_run::{PARTS, RUN, assert_report, report_of_nothing, report_of_run};
 use deodarsieve_cli::report::{Files, Format};
 use deodarsieve_tests::reports::{OPTIONS, end_of_text, new_report, write_report};
 

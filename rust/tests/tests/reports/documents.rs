@@ -1,6 +1,6 @@
 //! What the page and the summary of a workflow show of a run.
 
-use crate::{OPTIONS, reported};
+use crate::reports::{OPTIONS, reported};
 use deodarsieve_cli::report::Format;
 
 /// A suite with one test that passes and two that are skipped. One of the skipped tests has a reason.

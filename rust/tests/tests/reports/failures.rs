@@ -1,6 +1,6 @@
 //! Writers that fail: what was written is a beginning of the report.
 
-use crate::small_run::{PARTS, RUN, report_of_run};
+use crate::reports::small_run::{PARTS, RUN, report_of_run};
 use deodarsieve::RunOutcome;
 use deodarsieve_cli::report::fault::Fault;
 use deodarsieve_cli::report::{Files, Format};

@@ -1,7 +1,7 @@
 //! The report of a small run in each form, and several files that are one run.
 
-use crate::small_run::{RUN, report_of_run};
-use crate::{GITHUB, reported};
+use crate::reports::small_run::{RUN, report_of_run};
+use crate::reports::{GITHUB, reported};
 use deodarsieve::RunOutcome;
 use deodarsieve_cli::report::{Document, Files, Format, Json};
 use deodarsieve_run::{CommandEnd, SuiteNames};

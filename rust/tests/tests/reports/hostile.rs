@@ -1,6 +1,6 @@
 //! Lines that no harness writes, or that a test writes in its place.
 
-use crate::{Case, assert_reports};
+use crate::reports::{Case, assert_reports};
 
 /// The summary of a run without tests.
 const NOTHING: &str =

@@ -1,6 +1,6 @@
 //! Which tests the levels show, when the tests end and in the list at the end.
 
-use crate::{OPTIONS, reported};
+use crate::reports::{OPTIONS, reported};
 use deodarsieve::{CancelReason, FinalStatusLevel, StatusLevel, TestOutputDisplay};
 use deodarsieve_cli::report::options::Options;
 use deodarsieve_cli::report::{Files, Format};

@@ -1,7 +1,7 @@
 //! What is shown of long texts: the fronts and ends of long lines and of long reasons, and the lines before an
 //! explanation.
 
-use crate::{GITHUB, OPTIONS, reported};
+use crate::reports::{GITHUB, OPTIONS, reported};
 use deodarsieve::{FinalStatusLevel, TestOutputDisplay};
 use deodarsieve_cli::report::Format;
 use deodarsieve_cli::report::options::{Options, OutputDisplay};

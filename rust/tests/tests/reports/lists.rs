@@ -1,6 +1,6 @@
 //! Failed tests in the list and in annotations: how they are sorted, and which of them are one entry.
 
-use crate::{OPTIONS, reported};
+use crate::reports::{OPTIONS, reported};
 use deodarsieve::CancelReason;
 use deodarsieve_cli::report::options::Options;
 use deodarsieve_cli::report::{Files, Format};

@@ -1,6 +1,6 @@
 //! Lines that are long, and lines that nest deeply.
 
-use crate::small_run::{assert_report, report_of_nothing};
+use crate::reports::small_run::{assert_report, report_of_nothing};
 use deodarsieve_tests::reports::end_of_text;
 
 /// Returns the run of a test with a message of this number of times 50,000 bytes.

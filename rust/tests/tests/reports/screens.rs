@@ -1,7 +1,7 @@
 //! The text on a terminal and in a log: its last lines, commands, links, and lines that are too long.
 
-use crate::small_run::{PARTS, RUN};
-use crate::{OPTIONS, reported};
+use crate::reports::small_run::{PARTS, RUN};
+use crate::reports::{OPTIONS, reported};
 use deodarsieve_cli::report::options::Options;
 use deodarsieve_cli::report::screen::Screen;
 use deodarsieve_cli::report::{Files, Format};

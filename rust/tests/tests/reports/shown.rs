@@ -1,6 +1,6 @@
 //! How much is shown of the explanation of a failure, and in which form.
 
-use crate::{Case, OPTIONS, assert_reports, assert_reports_with, reported};
+use crate::reports::{Case, OPTIONS, assert_reports, assert_reports_with, reported};
 use deodarsieve::TestOutputDisplay;
 use deodarsieve_cli::report::Format;
 use deodarsieve_cli::report::options::{Options, OutputDisplay};

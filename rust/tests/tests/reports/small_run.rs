@@ -1,6 +1,6 @@
 //! A small run, and its report as text.
 
-use crate::reported;
+use crate::reports::reported;
 use deodarsieve_cli::report::Format;
 use deodarsieve_tests::reports::{OPTIONS, end_of_text};
 

@@ -1,7 +1,7 @@
 //! Colours, diffs and short backtraces in what is shown of why a test failed.
 
-use crate::limits::{json_of, limited, run_of};
-use crate::{GITHUB, OPTIONS, reported};
+use crate::reports::limits::{json_of, limited, run_of};
+use crate::reports::{GITHUB, OPTIONS, reported};
 use deodarsieve::TestOutputDisplay;
 use deodarsieve_cli::report::Format;
 use deodarsieve_cli::report::options::{Options, OutputDisplay};

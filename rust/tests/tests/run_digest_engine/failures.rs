@@ -1,7 +1,7 @@
 //! The engines over devices that fail.
 
-use crate::engine::{EXTRACT, Engine, OUTPUT, REPORT, RUN, SOUND};
-use crate::long_runs::run_of;
+use crate::run_digest_engine::engine::{EXTRACT, Engine, OUTPUT, REPORT, RUN, SOUND};
+use crate::run_digest_engine::long_runs::run_of;
 use deodarsieve_cli::run_digest_engine::fault::Fault;
 use deodarsieve_tests::devices::Devices;
 

@@ -1,7 +1,7 @@
 //! The report of finished runs, compared with the text that `count` writes for lines that describe
 //! them.
 
-use crate::engine::{Engine, SOUND};
+use crate::run_digest_engine::engine::{Engine, SOUND};
 use deodarsieve::{CancelReason, FinishedRun, FinishedUnit, FlakyResult, RunStart};
 use deodarsieve_cli::run_digest_engine::runs::report_of_runs;
 use deodarsieve_tests::fixtures::{EXIT_ONE, LEAK_PASS, PASS, finished_script, finished_test};

@@ -1,6 +1,6 @@
 //! Runs of many lines.
 
-use crate::engine::{Engine, SOUND};
+use crate::run_digest_engine::engine::{Engine, SOUND};
 use deodarsieve_cli::run_digest_engine::fault::Fault;
 
 /// Returns the lines of a run of `tests` tests. `counts` has how often the line of a test is before

@@ -1,7 +1,7 @@
 //! The calls that devices make of readers and writers of `std`, which are fakes that keep a log of
 //! their calls.
 
-use crate::engine::{EXTRACT, OUTPUT, REPORT, RUN};
+use crate::run_digest_engine::engine::{EXTRACT, OUTPUT, REPORT, RUN};
 use deodarsieve_cli::program_io::device::{DeviceFailed, Sink, Source};
 use deodarsieve_cli::program_io::std_device::{StdSink, StdSource};
 use deodarsieve_cli::run_digest_engine::count::count;

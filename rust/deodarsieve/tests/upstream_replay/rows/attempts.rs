@@ -1,11 +1,11 @@
 //! Tests by their attempts: descriptions, levels, and what is shown.
 
 use crate::fixtures::attempt;
-use crate::level::{named_final_level, named_level};
-use crate::rows::words::result_in;
-use crate::visibility::named_display;
-use crate::words::named_reason;
-use crate::words::{named_setting, named_truth};
+use crate::upstream_replay::level::{named_final_level, named_level};
+use crate::upstream_replay::rows::words::result_in;
+use crate::upstream_replay::visibility::named_display;
+use crate::upstream_replay::words::named_reason;
+use crate::upstream_replay::words::{named_setting, named_truth};
 use deodarsieve::{
     AbortDescription, ExecuteStatus, ExecutionDescription, ExecutionResult,
     ExecutionResultDescription, ExecutionStatuses, FailureDescription, LiveSpec, RetryData,

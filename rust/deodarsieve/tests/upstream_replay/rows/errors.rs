@@ -1,7 +1,7 @@
 //! Errors with causes as JSON, and the errors of units.
 
-use crate::rows::slices::slice_text;
-use crate::rows::words::{bytes_in, result_in, shown, text_in};
+use crate::upstream_replay::rows::slices::slice_text;
+use crate::upstream_replay::rows::words::{bytes_in, result_in, shown, text_in};
 use bytes::Bytes;
 use deodarsieve::{
     ChildError, ChildErrorDescription, ChildExecutionOutput, ChildExecutionOutputDescription,

@@ -1,7 +1,7 @@
 //! Modes, kinds, reasons, settings and constants, and their texts.
 
-use crate::visibility::named_display;
-use crate::words::named_reason;
+use crate::upstream_replay::visibility::named_display;
+use crate::upstream_replay::words::named_reason;
 use deodarsieve::{
     FlakyResult, NextestRunMode, SIGTERM, UnitKind, UnitTerminateReason, UnitTerminateSignal,
 };

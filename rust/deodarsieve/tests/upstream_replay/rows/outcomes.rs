@@ -1,8 +1,8 @@
 //! The summaries of counters, and outcomes.
 
-use crate::counter::{counters_in, unit_in};
-use crate::unit::Unit;
-use crate::words::named_reason;
+use crate::upstream_replay::counter::{counters_in, unit_in};
+use crate::upstream_replay::unit::Unit;
+use crate::upstream_replay::words::named_reason;
 use deodarsieve::{
     CancelReason, FinalRunStats, RunFinishedStats, RunOutcome, RunStats, RunStatsFailureKind,
     StressIndex, StressRunStats,

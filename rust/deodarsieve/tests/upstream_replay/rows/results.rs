@@ -1,6 +1,6 @@
 //! Results and aborts, and their texts.
 
-use crate::rows::words::{result_in, shown, text_in};
+use crate::upstream_replay::rows::words::{result_in, shown, text_in};
 use deodarsieve::{
     AbortDescription, AbortStatus, ExecutionResult, ExecutionResultDescription, FailureDescription,
 };

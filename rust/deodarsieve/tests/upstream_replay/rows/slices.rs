@@ -1,7 +1,7 @@
 //! Slices of output, with both streams, with a limit, and each heuristic alone.
 
-use crate::extract::parts_of;
-use crate::rows::words::bytes_in;
+use crate::upstream_replay::extract::parts_of;
+use crate::upstream_replay::rows::words::bytes_in;
 use deodarsieve::{
     ByteSubslice, TestOutputErrorSlice, heuristic_error_str, heuristic_panic_message,
     heuristic_should_panic,

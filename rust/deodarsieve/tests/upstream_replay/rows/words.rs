@@ -1,7 +1,7 @@
 //! Words that several questions share.
 
-use crate::escapes::unescaped;
-use crate::words::named_result;
+use crate::upstream_replay::escapes::unescaped;
+use crate::upstream_replay::words::named_result;
 use deodarsieve::{AbortStatus, ExecutionResult, FailureStatus};
 use std::fmt;
 

@@ -2,9 +2,6 @@
 //! attributes that nextest's types have.
 #![cfg(feature = "serde")]
 
-#[path = "../common/mod.rs"]
-mod common;
-
 mod attempts;
 mod errors;
 mod moments;

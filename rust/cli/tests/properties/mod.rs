@@ -6,8 +6,6 @@
 //! The expected texts have the escapes of the page on `test-report` and no others, so the type of texts for a terminal has
 //! nothing to add.
 
-#[path = "../common/mod.rs"]
-mod common;
 mod comparisons;
 mod documents;
 mod facts;
@@ -185,7 +183,7 @@ fn mutated_runs() {
 
 #[test]
 fn runs_that_are_compared() {
-    let folder = common::Folder::new("properties-compared");
+    let folder = crate::common::Folder::new("properties-compared");
     let path = folder.0.join("earlier");
     let runs = mutated::stored_runs();
     let mut random = Random::new(2);

@@ -7,12 +7,6 @@
 //! show that the replay notices a wrong line. The rows of `SerializableError` as JSON are compared with
 //! the feature `serde_json` alone.
 
-#[path = "../common/mod.rs"]
-mod common;
-#[allow(dead_code, reason = "other tests use the other samples")]
-#[path = "../fixtures/mod.rs"]
-mod fixtures;
-
 mod counter;
 mod escapes;
 mod extract;

@@ -1,0 +1,31 @@
+//! The tests of this package, as one program. By itself cargo builds and links one for each file, which takes longer.
+
+mod arguments;
+mod build_errors;
+mod builds;
+mod cargo_command;
+mod cargo_settings;
+mod command_runs;
+mod common;
+mod comparisons;
+mod compiler_messages;
+mod devices;
+mod failed_tests;
+mod failure_groups;
+mod forms;
+mod interrupts;
+mod json;
+mod kept_runs;
+mod left_processes;
+mod live;
+mod manifests;
+mod memory;
+mod output_files;
+mod program_environment;
+mod program_runs;
+mod properties;
+mod report_text;
+mod retries;
+mod saved_runs;
+mod stand_ins;
+mod suite_names;
