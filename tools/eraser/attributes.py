@@ -38,7 +38,7 @@ def _on_type(source, i, crate):
     """Gives the type of this crate that is declared at `i` its derives."""
     is_layer = PACKAGE_OF[crate] == LAYER
     name = source.at(source.after(i))
-    first = _first_word(source, i)
+    first = source.first_of_item(i)
     derive, words = _derive(source, first)
     of_all = types.DERIVES_OF_ALL.get(crate, ())
     if not set(words).isdisjoint(of_all):
@@ -64,16 +64,6 @@ def _gets_debug(source, i, first, crate):
     is_public = source.at(first) == "pub" and source.at(source.after(first)) != "("
     is_by_hand = _implements(source, "Debug", source.at(source.after(i)))
     return PACKAGE_OF[crate] == LAYER and is_public and not _is_generic(source, i) and not is_by_hand
-
-
-def _first_word(source, i):
-    """Returns the first token of the declaration at `i`: its visibility, or `i`."""
-    before = source.before(i)
-    if source.at(before) == "pub":
-        return before
-    if source.at(before) == ")" and source.at(source.before(source.partner[before])) == "pub":
-        return source.before(source.partner[before])
-    return i
 
 
 def _derive(source, first):

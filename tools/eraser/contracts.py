@@ -1,4 +1,6 @@
 """Part 1 of the eraser: takes contracts, ghosts, models, tactics and handles of the runtime out of a file."""
+import re
+
 from .functions import CLAUSES, functions_of
 from .scanner import CLOSING, Source
 from .table import ATTRIBUTES, HANDLES, MACROS, NOT_IN_PLAIN_RUST
@@ -6,6 +8,12 @@ from .table import ATTRIBUTES, HANDLES, MACROS, NOT_IN_PLAIN_RUST
 KEYWORDS = CLAUSES + ("ghost", "prove", "prove_eq", "prove_ne", "tactic", "invariant")
 RUNTIME_MACROS = ("assert", "assert_eq", "println")
 NO_CALL = ("match", "if", "while", "in", "return", "else")
+# The body of an implementation of `Drop` that drops each field and does nothing else, word by word.
+FIELDS = r"(\{ (\w+ : _ ,? ?)*\}|\( (_ ,? ?)*\))"
+PLAIN_DROP = re.compile(
+    r"\{ fn drop \( self \) \{ "
+    rf"(let \w+ {FIELDS} = self ;|match self \{{ ((\w+ :: \w+ ({FIELDS} )?\|? ?)+=> \{{ \}} ,? ?)+\}}) \}} \}}"
+)
 
 
 def without_contracts(text, name):
@@ -46,7 +54,7 @@ def _drop_comments(source, first, end):
 
 
 def _drop_ghosts(source):
-    """Drops ghost items and the implementations of models."""
+    """Drops ghost items, implementations of models, and those of `Drop` that only drop each field."""
     for i in source.code:
         if source.is_dropped[i]:
             continue
@@ -56,8 +64,27 @@ def _drop_ghosts(source):
             at = source.after_generics(source.after(i))
             if source.reads(at, "Model", "for"):
                 source.drop_item(i, source.partner[source.find(at, "{")])
+            elif source.reads(at, "Drop", "for"):
+                _on_drop(source, i, source.find(at, "{"))
         elif source.reads(i, "use", "std", "::", "marker", "::", "Model", ";"):
             source.drop_line(i, source.after(i, 6))
+
+
+def _on_drop(source, i, brace):
+    """Derives `Drop` in place of the implementation of `Drop` that begins at `i`, whose body begins at `brace`, if it only
+    drops each field. An implementation that does more is left as it is."""
+    end = source.partner[brace]
+    if not PLAIN_DROP.fullmatch(" ".join(source.text[at] for at in source.code if brace <= at <= end)):
+        return
+    name = source.at(source.after(source.find(i, "for")))
+    declared = [at for at in source.code if source.text[at] in ("struct", "enum") and source.reads(source.after(at), name)]
+    if not declared:
+        source.refuse(i, "an implementation of Drop for a type of another file")
+    first = source.first_of_item(declared[0])
+    if source.at(source.before(first)) == "]":
+        source.refuse(i, "an implementation of Drop for a type with attributes")
+    source.new[first] = "#[derive(Drop)]\n" + source.new[first]
+    source.drop_item(i, end)
 
 
 def _ghost_end(source, i):

@@ -173,6 +173,15 @@ class Source:
                 break
         return start
 
+    def first_of_item(self, i):
+        """Returns the first token of the declaration at `i`: its visibility, or `i`."""
+        before = self.before(i)
+        if self.at(before) == "pub":
+            return before
+        if self.at(before) == ")" and self.at(self.before(self.partner[before])) == "pub":
+            return self.before(self.partner[before])
+        return i
+
     def _begins_line(self, i):
         """Returns true if no other token is before `i` on its line."""
         return i == 0 or (self.kind[i - 1] == "space" and "\n" in self.text[i - 1])
