@@ -71,7 +71,7 @@ fraction_bound ds size all is =
     (omega (arith, v, p), omega (arith, m, t))
 
 -- they are the microseconds, rounded down
-pub fraction_floor : (ds : List ℕ) (size : ℕ) → AreDigits ds → size ≡ min (length ds) 6
+fraction_floor : (ds : List ℕ) (size : ℕ) → AreDigits ds → size ≡ min (length ds) 6
     → digits_value 10 (take size ds) * 10 ^ (6 - size) ≡ digits_value 10 ds * 1000000 / 10 ^ length ds
 fraction_floor ds size all is = ⊎_elim few many (cases_lt (length ds) 6)
   where
@@ -103,3 +103,10 @@ fraction_floor ds size all is = ⊎_elim few many (cases_lt (length ds) 6)
         let one : a * 10 ^ (6 - 6) ≡ a = omega arith in
         ap (λ n. digits_value 10 (take n ds) * 10 ^ (6 - n)) six
         ∙ (one ∙ sym (ap (λ n. n / 10 ^ length ds) e ∙ div-mul-add a (10 ^ length ds) (b * 1000000) (omega (arith, small, power))))
+
+-- by a value and a power that a program has computed
+pub fraction_is : (ds : List ℕ) (size v p : ℕ) → AreDigits ds → size ≡ min (length ds) 6 → v ≡ digits_value 10 (take size ds) → p ≡ 10 ^ (6 - size)
+    → (v * p < 1000000) × (v * p ≡ digits_value 10 ds * 1000000 / 10 ^ length ds)
+fraction_is ds size v p all is is_v is_p =
+    let product : v * p ≡ digits_value 10 (take size ds) * 10 ^ (6 - size) = λ i. is_v i * is_p i in
+    (omega (arith, product, (fraction_bound ds size all is).1), product ∙ fraction_floor ds size all is)

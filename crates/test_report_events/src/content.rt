@@ -9,7 +9,6 @@ use crate::event::{CargoFailure, Event, SuiteEnd, SuiteKey, TestDetails, TestRes
 use std::alloc::{AllocError, Global};
 
 /// An event that has its texts. An [`Event`] borrows them.
-#[derive(Drop)]
 pub(crate) enum Content {
     /// A suite starts.
     SuiteStarted {
@@ -57,6 +56,30 @@ pub(crate) enum Content {
 
     /// A damaged line says that a test or a suite failed.
     Damaged(String),
+}
+
+impl Drop for Content {
+    fn drop(self) {
+        match self {
+            Content::SuiteStarted {
+                key: _,
+                test_count: _,
+            }
+            | Content::SuiteEnded(_)
+            | Content::TestStarted { name: _ }
+            | Content::TestEnded(_)
+            | Content::TestSlow { name: _ }
+            | Content::Other
+            | Content::Heading { suite: _, path: _ }
+            | Content::Failure {
+                failure: _,
+                line: _,
+                plain: _,
+            }
+            | Content::Print { line: _, plain: _ }
+            | Content::Damaged(_) => {}
+        }
+    }
 }
 
 /// The key of a suite.

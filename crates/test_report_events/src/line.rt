@@ -24,7 +24,6 @@ use serde_json::Value;
 use std::alloc::{AllocError, Global};
 
 /// A parsed line of a test run.
-#[derive(Drop)]
 pub struct Line {
     /// The print in front of the event, if there is one.
     before: Option<Content>,
@@ -40,6 +39,18 @@ pub struct Line {
 
     /// What the line says of a program or of the command, if it does.
     program: Option<ProgramLine>,
+}
+
+impl Drop for Line {
+    fn drop(self) {
+        let Line {
+            before: _,
+            content: _,
+            damage: _,
+            rest: _,
+            program: _,
+        } = self;
+    }
 }
 
 impl Line {

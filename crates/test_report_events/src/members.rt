@@ -168,7 +168,6 @@ impl<'a> Members<'a> {
     }
 
     /// Returns the time of the object in microseconds. `line` is the line that has the object.
-    #[tactic(auto, using(crate::proofs::Times::time_is))]
     pub(crate) fn time_in(&self, line: &[u8]) -> Option<u64>
         requires { AreMembersOf (view self.now.object.now) self.now }
         ensures { said.IsTime line.now (view self.now.object.now) result }

@@ -26,7 +26,6 @@ const MICROSECONDS: u64 = 1_000_000;
 /// Returns the time of a line in microseconds, rounded down. The time is the number of seconds after the
 /// last `"exec_time":` of the line. Returns `None` if there is no such number, if it has an exponent or a
 /// sign, or if it has more than nine digits before the point.
-#[tactic(auto, using(crate::proofs::Times::time_after, crate::proofs::Times::no_time))]
 pub(crate) fn exec_time(line: &[u8]) -> Option<u64>
     ensures { MatchOption result ((micros : ℕ) → ¬ time.GivesTime line.now micros) (time.GivesTime line.now) }
 {
@@ -104,7 +103,6 @@ pub(crate) fn are_digits(bytes: &[u8]) -> bool
 /// Parses a number of seconds, and returns whole microseconds, rounded down. Returns `None` if the text is not a
 /// decimal number with digits on both sides of its point, if it has one, or if it has more than nine digits before
 /// the point.
-#[tactic(auto, using(crate::proofs::Values::value_short))]
 pub fn microseconds(number: &[u8]) -> Option<u64>
     ensures { SomeIff result (time.IsSeconds number.now) (time.microseconds number.now) }
 {
@@ -119,7 +117,6 @@ pub fn microseconds(number: &[u8]) -> Option<u64>
 }
 
 /// Returns the value of at most nine digits.
-#[tactic(auto, using(crate::proofs::Values::value_next))]
 fn digits_value(digits: &[u8]) -> u64
     requires digits { time.AreDigits digits.now }
     requires fits { digits_value 10 digits.now < 10 ^ 9 }
@@ -133,7 +130,6 @@ fn digits_value(digits: &[u8]) -> u64
 }
 
 /// Returns the microseconds in the digits after a point, rounded down.
-#[tactic(auto, using(crate::proofs::Values::fraction_bound, crate::proofs::Values::fraction_floor))]
 fn fraction_value(digits: &[u8]) -> u64
     requires { time.AreDigits digits.now }
     ensures value { result ≡ digits_value 10 digits.now * 1000000 / 10 ^ length digits.now }

@@ -30,7 +30,6 @@ use test_report_run_notes::note::{CommandEnd, Note, ProgramFault};
 ///
 /// Such lines count in a file whose first line is one of them. There, a program's suites have its name and end early with
 /// it, headings and failures of cargo are prints, and each line that is no event says nothing.
-#[derive(Drop)]
 pub struct ProgramRun {
     /// Whether lines of programs count in this file, once it has a line.
     counts: Option<bool>,
@@ -46,6 +45,18 @@ pub struct ProgramRun {
 
     /// The run.
     run: TestRun,
+}
+
+impl Drop for ProgramRun {
+    fn drop(self) {
+        let ProgramRun {
+            counts: _,
+            program: _,
+            over: _,
+            is_done: _,
+            run: _,
+        } = self;
+    }
 }
 
 impl ProgramRun {

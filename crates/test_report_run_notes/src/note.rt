@@ -11,7 +11,6 @@ use test_report_events::event::TestResult;
 use test_report_events::program::ProgramEnd;
 
 /// A fact about a run that a line, or the end of a file, makes known.
-#[derive(Drop)]
 pub enum Note {
     /// A test passed, failed or was skipped.
     Test(TestNote),
@@ -29,6 +28,18 @@ pub enum Note {
     /// A suite is over. The end of each file also makes one without a name known: the numbers of the tests outside of
     /// suites, even if there are none.
     Suite(SuiteNote),
+}
+
+impl Drop for Note {
+    fn drop(self) {
+        match self {
+            Note::Test(_)
+            | Note::Flaky(_)
+            | Note::Disagreement(_)
+            | Note::NotRun(_)
+            | Note::Suite(_) => {}
+        }
+    }
 }
 
 /// A test, and whether it passed, failed or was skipped.
@@ -61,7 +72,6 @@ pub struct TestNote {
 }
 
 /// The outcome of a test.
-#[derive(Drop)]
 pub enum TestOutcome {
     /// The test passed. It is flaky if it took several attempts.
     Passed {
@@ -83,6 +93,17 @@ pub enum TestOutcome {
     Failed(Failure),
 }
 
+impl Drop for TestOutcome {
+    fn drop(self) {
+        match self {
+            TestOutcome::Passed { output: _ }
+            | TestOutcome::Skipped { reason: _ }
+            | TestOutcome::Stopped
+            | TestOutcome::Failed(_) => {}
+        }
+    }
+}
+
 /// How a test failed, with the texts that its lines have about it.
 #[derive(Drop)]
 pub struct Failure {
@@ -100,7 +121,6 @@ pub struct Failure {
 }
 
 /// The kinds of failures.
-#[derive(Drop)]
 pub enum FailureKind {
     /// A line says that the test failed.
     Failed,
@@ -118,8 +138,19 @@ pub enum FailureKind {
     Crashed(Crash),
 }
 
+impl Drop for FailureKind {
+    fn drop(self) {
+        match self {
+            FailureKind::Failed
+            | FailureKind::TimedOut
+            | FailureKind::WithoutEnd
+            | FailureKind::Flaky
+            | FailureKind::Crashed(_) => {}
+        }
+    }
+}
+
 /// How a test crashed.
-#[derive(Drop)]
 pub struct Crash {
     /// The number of tests of the suite that crashed then, including this one.
     pub running: usize,
@@ -145,9 +176,22 @@ pub struct Crash {
     pub above: bool,
 }
 
+impl Drop for Crash {
+    fn drop(self) {
+        let Crash {
+            running: _,
+            has_key: _,
+            end: _,
+            cause: _,
+            prints: _,
+            last: _,
+            above: _,
+        } = self;
+    }
+}
+
 /// A contradiction between lines of a run. A damaged line that says a failure, a file without an event of a
 /// harness, and the end of a command that failed count as contradictions, too.
-#[derive(Drop)]
 pub enum Disagreement {
     /// A suite has no last line, and none of its tests crashed.
     EndedEarly {
@@ -224,8 +268,33 @@ pub enum Disagreement {
     Cancelled(CancelReason),
 }
 
+impl Drop for Disagreement {
+    fn drop(self) {
+        match self {
+            Disagreement::EndedEarly { suite: _, end: _ }
+            | Disagreement::LastLine {
+                suite: _,
+                said: _,
+                passed: _,
+                failed: _,
+            }
+            | Disagreement::StrayEnd { name: _, result: _ }
+            | Disagreement::StraySuiteEnd {
+                key: _,
+                failed_verdict: _,
+            }
+            | Disagreement::OutsideSuite { started: _ }
+            | Disagreement::Cargo(_)
+            | Disagreement::Damaged { text: _ }
+            | Disagreement::NoEvent { file: _ }
+            | Disagreement::Command(_)
+            | Disagreement::Program(_)
+            | Disagreement::Cancelled(_) => {}
+        }
+    }
+}
+
 /// What is wrong with the lines of programs.
-#[derive(Drop)]
 pub enum ProgramFault {
     /// A program ended with a status other than 0 or by a signal, and nothing that became known since it started says
     /// why.
@@ -259,6 +328,18 @@ pub enum ProgramFault {
     CutOff,
 }
 
+impl Drop for ProgramFault {
+    fn drop(self) {
+        match self {
+            ProgramFault::Unexplained { program: _, end: _ }
+            | ProgramFault::NoTests { program: _ }
+            | ProgramFault::NoEnd { program: _ }
+            | ProgramFault::NotStarted { end: _ }
+            | ProgramFault::CutOff => {}
+        }
+    }
+}
+
 /// A failure that cargo or nextest reports.
 #[derive(Drop)]
 pub struct CargoReport {
@@ -279,7 +360,6 @@ pub struct CargoReport {
 }
 
 /// How a command ended.
-#[derive(Drop)]
 pub enum CommandEnd {
     /// The command could not be started.
     NotStarted {
@@ -307,6 +387,17 @@ pub enum CommandEnd {
         /// The words of the command.
         words: String,
     },
+}
+
+impl Drop for CommandEnd {
+    fn drop(self) {
+        match self {
+            CommandEnd::NotStarted { error: _ }
+            | CommandEnd::Signal { number: _ }
+            | CommandEnd::Status { code: _ }
+            | CommandEnd::Error { code: _, words: _ } => {}
+        }
+    }
 }
 
 /// The numbers and the verdict in the last line of a suite. If it has several, their numbers are added.
