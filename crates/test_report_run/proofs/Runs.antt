@@ -11,8 +11,8 @@ use Rattle.test_report_run_notes.proofs.Places.{remove-set}
 use Rattle.test_report_run_notes.specs.Note.{NoteView, text_view}
 use Rattle.test_report_run.specs.Others.{event_place}
 use Rattle.test_report_run.specs.Over.{EarlyEnd, early_notes, last_notes, nothing_known}
-use Rattle.test_report_run.specs.Run.{RunState, Step, ended_at, ended_early, heard, last_place, opened, running_ends, started_again, step, stray_ends, suite_at, suite_place, test_over, tests_in, with_suite_at, without_tests}
-use Rattle.test_report_run.specs.Running.{RunningView, ended_at as test_at}
+use Rattle.test_report_run.specs.Run.{RunState, Step, ended_at, ended_early, heard, heard_at, last_place, opened, place_of_number, running_ends, slow_at, started_again, step, stray_ends, suite_at, suite_place, test_over, tests_in, with_suite_at, without_tests}
+use Rattle.test_report_run.specs.Running.{RunningView, ended_at as test_at, running_at, with_slow}
 use Rattle.test_report_run.specs.Name.{before_dollar}
 use Rattle.test_report_run.specs.Suite.{SuiteState, cancelled_by, has_key, joined_by, state_of, with_line}
 use Rattle.test_report_run.specs.declared.others.EventPlace.{EventPlace}
@@ -115,3 +115,18 @@ only-place (s ∷ (t ∷ suites)) key is = absurd (omega (arith, is))
 
 pub place-of-one : (r : RunState) (name : List ℕ) → length r.suites ≡ 1 → suite_place r name ≡ Some 0
 place-of-one r name is = only-place r.suites (before_dollar name) is
+
+-- a running test is slow, and its suite has an event
+heard-running : (r : RunState) (tests : List RunningView) (place : Option ℕ)
+    → heard_at (record r { running = tests }) place ≡ record (heard_at r place) { running = tests }
+heard-running r tests None = refl
+heard-running r tests (Some at) = refl
+
+pub slow-heard : (r marked run : RunState) (place : Option (ℕ × ℕ)) (number : Option ℕ)
+    → Some number ≡ option_map (λ p. (running_at r.running p.0).suite) place
+    → marked ≡ record r { running = option_map_or (λ p. with_slow r.running p.0) place r.running }
+    → run ≡ heard_at marked (place_of_number marked number) → run ≡ option_map_or (λ p. slow_at r p.0) place r
+slow-heard r marked run None number is slow heard = absurd (none-some number (sym is))
+slow-heard r marked run (Some p) number is slow heard =
+    let same : number ≡ (running_at r.running p.0).suite = cc in
+    rw (heard, slow, same) (heard-running r (with_slow r.running p.0) (place_of_number r (running_at r.running p.0).suite))

@@ -1,6 +1,6 @@
 //! The ends of the tests of a suite.
 
-ghost use Rattle.std.specs.Prelude.{◌≡◌, ◌++◌, [], IfOk, OnOk, map, option_map};
+ghost use Rattle.std.specs.Prelude.{◌≡◌, ◌+◌, ◌++◌, [], IfOk, OnOk, map, option_map};
 ghost use Rattle.test_report_events.specs.Event.{test_end_view};
 ghost use Rattle.test_report_events.specs.declared.event.TestResult.TheVariants as ended;
 ghost use Rattle.test_report_run_notes.specs.Note.{failure_view, note_view, text_view};
@@ -35,13 +35,13 @@ fn failure_of(alloc: Global, details: TestDetails<'_>) -> Result<Failure, AllocE
         failure_view failure ≡ spec.failure_of (test_end_view [] ended.Failed details.entry)) }
 {
     Ok(Failure {
+        stdout: owned(alloc, details.stdout)?,
+        message: owned(alloc, details.message)?,
+        reason: owned(alloc, details.reason)?,
         kind: match details.reason {
             Some(TIME_LIMIT) => FailureKind::TimedOut,
             _ => FailureKind::Failed,
         },
-        stdout: owned(alloc, details.stdout)?,
-        message: owned(alloc, details.message)?,
-        reason: owned(alloc, details.reason)?,
     })
 }
 
@@ -66,25 +66,81 @@ impl Suite {
         ensures number { self.new.name.number ≡ self.old.name.number }
         ensures key { text_view self.new.name.key ≡ text_view self.old.name.key }
     {
-        if end == TestResult::Ignored {
-            self.skipped = one_more(self.skipped)?;
-            let reason = owned(alloc, details.message)?;
-            notes.push(self.note(test, TestOutcome::Skipped { reason })?)?;
-            return Ok(());
+        match end {
+            TestResult::Ok => self.on_passed(alloc, test, order, details, notes),
+            TestResult::Failed => self.on_failed(alloc, test, details, notes),
+            TestResult::Ignored => self.on_ignored(alloc, test, details, notes),
         }
+    }
+
+    /// Takes the end of a test that was ignored. Fails if memory runs out, or a number of the suite does not fit.
+    fn on_ignored(
+        &mut self,
+        alloc: Global,
+        test: OverTest,
+        details: TestDetails<'_>,
+        notes: &mut Vec<Note>,
+    ) -> Result<(), RunError>
+        ensures takes { OnOk result (state_of self.new ≡ record (state_of self.old) {
+          skipped = self.old.skipped + 1;
+        }) }
+        ensures tells { OnOk result (map note_view notes.new.items ≡ map note_view notes.old.items
+            ++ spec.end_notes (state_of self.old) (over_view test)
+            (test_end_view [] ended.Ignored details.entry)) }
+        ensures number { self.new.name.number ≡ self.old.name.number }
+        ensures key { text_view self.new.name.key ≡ text_view self.old.name.key }
+    {
+        self.skipped = one_more(self.skipped)?;
+        let reason = owned(alloc, details.message)?;
+        self.push_test(test, TestOutcome::Skipped { reason }, notes)?;
+        Ok(())
+    }
+
+    /// Takes the end of a test that passed. Fails if memory runs out, or a number of the suite does not fit.
+    fn on_passed(
+        &mut self,
+        alloc: Global,
+        test: OverTest,
+        order: usize,
+        details: TestDetails<'_>,
+        notes: &mut Vec<Note>,
+    ) -> Result<(), RunError>
+        ensures takes { OnOk result (state_of self.new ≡ spec.after_end (state_of self.old)
+            (over_view test) order (test_end_view [] ended.Ok details.entry)) }
+        ensures tells { OnOk result (map note_view notes.new.items ≡ map note_view notes.old.items
+            ++ spec.end_notes (state_of self.old) (over_view test)
+            (test_end_view [] ended.Ok details.entry)) }
+        ensures number { self.new.name.number ≡ self.old.name.number }
+        ensures key { text_view self.new.name.key ≡ text_view self.old.name.key }
+    {
         self.time = time_sum(self.time, details.time);
-        if end == TestResult::Failed {
-            return self.on_failed(alloc, test, details, notes);
-        }
-        let output = owned(alloc, details.stdout)?;
-        let outcome = TestOutcome::Passed { output };
         if test.attempts > 1 {
-            notes.push(Note::Flaky(self.test_note(test.duplicate()?, outcome)?))?;
+            self.push_flaky(alloc, &test, details, notes)?;
             self.on_flaky(alloc, test, order, details)?;
-            return Ok(());
+        } else {
+            count(&mut self.stats, Finish::Passed, 1, test.slow)?;
+            let output = owned(alloc, details.stdout)?;
+            self.push_test(test, TestOutcome::Passed { output }, notes)?;
         }
-        count(&mut self.stats, Finish::Passed, 1, test.slow)?;
-        notes.push(self.note(test, outcome)?)?;
+        Ok(())
+    }
+
+    /// Adds the note that a test passed after several attempts.
+    fn push_flaky(
+        &self,
+        alloc: Global,
+        test: &OverTest,
+        details: TestDetails<'_>,
+        notes: &mut Vec<Note>,
+    ) -> Result<(), AllocError>
+        ensures { OnOk result (map note_view notes.new.items ≡ map note_view notes.old.items
+            ++ spec.flaky_end (state_of self.now) (over_view test.now)
+            (test_end_view [] ended.Ok details.entry)) }
+    {
+        let copy = test.duplicate()?;
+        let output = owned(alloc, details.stdout)?;
+        let note = self.test_note(copy, TestOutcome::Passed { output })?;
+        notes.push(Note::Flaky(note))?;
         Ok(())
     }
 
@@ -106,7 +162,7 @@ impl Suite {
         ensures number { self.new.name.number ≡ self.old.name.number }
         ensures key { text_view self.new.name.key ≡ text_view self.old.name.key }
     {
-        self.on_name(alloc, test.name.as_str())?;
+        self.name.take_test(alloc, test.name.as_str())?;
         self.on_end(alloc, test, 0, end, details, notes)
     }
 
@@ -118,14 +174,15 @@ impl Suite {
         details: TestDetails<'_>,
         notes: &mut Vec<Note>,
     ) -> Result<(), RunError>
-        ensures takes { OnOk result (state_of self.new ≡ spec.after_failed (state_of self.old)
-            (over_view test) (test_end_view [] ended.Failed details.entry)) }
+        ensures takes { OnOk result (state_of self.new ≡ spec.after_end (state_of self.old)
+            (over_view test) 0 (test_end_view [] ended.Failed details.entry)) }
         ensures tells { OnOk result (map note_view notes.new.items ≡ map note_view notes.old.items
             ++ spec.failed_note (state_of self.old) (over_view test)
             (test_end_view [] ended.Failed details.entry)) }
         ensures number { self.new.name.number ≡ self.old.name.number }
         ensures key { text_view self.new.name.key ≡ text_view self.old.name.key }
     {
+        self.time = time_sum(self.time, details.time);
         let failure = failure_of(alloc, details)?;
         count(
             &mut self.stats,
@@ -133,7 +190,7 @@ impl Suite {
             test.attempts,
             test.slow,
         )?;
-        notes.push(self.note(test, TestOutcome::Failed(failure))?)?;
+        self.push_test(test, TestOutcome::Failed(failure), notes)?;
         Ok(())
     }
 
@@ -157,7 +214,6 @@ impl Suite {
             stdout: owned(alloc, details.stdout)?,
             message: owned(alloc, details.message)?,
         };
-        self.flaky.insert(flaky)?;
-        Ok(())
+        self.flaky.insert(flaky)
     }
 }

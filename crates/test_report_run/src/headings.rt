@@ -44,9 +44,9 @@ impl Headings {
     {
         let number = self.number(alloc, name, path)?;
         if number == 1 {
-            return Ok(String::from_str(alloc, name)?);
+            return String::from_str(alloc, name);
         }
-        Ok(format!(in alloc; "{name} ({number})")?)
+        format!(in alloc; "{name} ({number})")
     }
 
     /// Adds a path to those of a name, and returns its number.
@@ -56,9 +56,9 @@ impl Headings {
         ensures takes { OnOk result (headings_of self.new ≡ with_heading (headings_of self.old)
             name.now (option_map (λ path. path.now) path.entry)) }
     {
-        let path = owned(alloc, path)?;
         let name = String::from_str(alloc, name)?;
         let paths = self.names.entry(name)?.or_insert(Paths::new(alloc));
+        let path = owned(alloc, path)?;
         paths.number(path)
     }
 }

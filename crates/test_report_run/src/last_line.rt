@@ -1,6 +1,6 @@
 //! The tests that the last line of a suite explains.
 
-ghost use Rattle.std.specs.Prelude.{◌≡◌, ◌+◌, ◌-◌, ◌≤◌, ◌<◌, ◌^◌, false, nat_le, min};
+ghost use Rattle.std.specs.Prelude.{◌≡◌, ◌==◌, ◌+◌, ◌-◌, ◌≤◌, ◌<◌, ◌^◌, false, nat_le, not, min};
 ghost use Rattle.std.specs.Option.{option_map_or};
 ghost use Rattle.test_report_run.specs.LastLine.{ended_of, room_of, not_started_of, explanation_of, flaky_failed, is_contradicted};
 
@@ -80,6 +80,7 @@ pub(crate) fn explained(tally: Tally, said: SaidNumbers, ignored: u128) -> Expla
     ensures value { result ≡ explanation_of tally said ignored }
     ensures left { result.skipped ≤ tally.left }
     ensures nameless { result.nameless ≤ ignored }
+    ensures fits { tally.skipped + result.skipped + result.nameless < 2 ^ 128 }
 {
     let more = ignored
         .saturating_sub(tally.skipped as u128)
@@ -144,6 +145,16 @@ pub(crate) fn disagrees(said: SaidNumbers, passed: usize, failed: usize) -> bool
     ensures { result ≡ is_contradicted said passed failed }
 {
     said.failed_verdict != (failed > 0)
-        || said.passed.is_some_and(|number| number != passed as u128)
-        || said.failed.is_some_and(|number| number != failed as u128)
+        || is_other(said.passed, passed)
+        || is_other(said.failed, failed)
+}
+
+/// Returns true if a last line has a number, and it is not this one.
+fn is_other(said: Option<u128>, number: usize) -> bool
+    ensures { result ≡ option_map_or (λ said. not (said == number)) said false }
+{
+    match said {
+        Some(said) => said != number as u128,
+        None => false,
+    }
 }

@@ -60,7 +60,6 @@ enum Stage {
 }
 
 /// What is kept of the lines of a file that are no events of a harness.
-#[derive(Drop)]
 pub(crate) struct Others {
     /// The prints before the first heading or failure of cargo, and between two of them.
     past: Vec<Prints>,
@@ -76,6 +75,19 @@ pub(crate) struct Others {
     /// The plain text of the cause of the last failure, or its first 200 bytes.
     last_cause: Option<String>,
     stage: Stage,
+}
+
+impl Drop for Others {
+    fn drop(self) {
+        let Others {
+            past: _,
+            prints: _,
+            headings: _,
+            causes: _,
+            last_cause: _,
+            stage: _,
+        } = self;
+    }
 }
 
 impl Others {

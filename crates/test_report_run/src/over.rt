@@ -1,6 +1,6 @@
 //! A suite that is over.
 
-ghost use Rattle.std.specs.Prelude.{◌≡◌, ◌++◌, ◌∷◌, [], ◌+◌, ◌<◌, is_some, IfOk, OnOk, map, true, length, if◌then◌else◌, ◌≤◌};
+ghost use Rattle.std.specs.Prelude.{◌≡◌, ◌++◌, ◌∷◌, [], ◌+◌, ◌<◌, ◌^◌, false, is_some, IfOk, OnOk, map, true, length, if◌then◌else◌, ◌≤◌};
 ghost use Rattle.test_report_run_notes.specs.Note.{HasCrashed, HasNoEnd, crash_view, kind_view, note_view};
 ghost use Rattle.test_report_run.specs.Others.{others_view};
 ghost use Rattle.test_report_run.specs.Over as spec;
@@ -8,6 +8,7 @@ ghost use Rattle.test_report_run.specs.Running.{running_test_view, running_view}
 ghost use Rattle.test_report_run.specs.Suite.{flaky_view, over_view, state_of};
 
 use crate::counted::count;
+use crate::disagreements::push_disagreement;
 use crate::early::Ending;
 use crate::error::{RunError, one_more};
 use crate::flaky::FlakyTests;
@@ -60,16 +61,6 @@ fn copy_of(alloc: Global, crash: &Crash) -> Result<Crash, AllocError>
 }
 
 impl Suite {
-    /// Returns a test of the suite with the cancel reason of the suite.
-    fn known_now(&self, test: OverTest) -> OverTest
-        ensures { over_view result ≡ record (over_view test) { cancel = self.now.cancel } }
-    {
-        OverTest {
-            cancel: self.cancel,
-            ..test
-        }
-    }
-
     /// Returns a test of the suite that has no line of its end.
     fn over(&self, test: RunningTest) -> OverTest
         ensures { over_view result ≡ spec.over_of (state_of self.now) (running_test_view test) }
@@ -85,10 +76,10 @@ impl Suite {
     }
 
     /// Ends the suite without a last line, and adds its notes. `left` are its running tests, and `how` says which of
-    /// them crashed. `others` are the lines of the file that are no events. Fails if memory runs out, or a number of the
-    /// suite does not fit.
+    /// them crashed. `others` are the lines of the file that are no events. The suite must not be used afterwards. Fails if
+    /// memory runs out, or a number of the suite does not fit.
     pub(crate) fn end_early(
-        mut self,
+        &mut self,
         alloc: Global,
         others: &Others,
         how: &Ending,
@@ -96,7 +87,7 @@ impl Suite {
         notes: &mut Vec<Note>,
     ) -> Result<(), RunError>
         ensures { OnOk result (map note_view notes.new.items ≡ map note_view notes.old.items
-            ++ spec.early_notes (others_view others.now) (spec.early_end_of how.now) (state_of self)
+            ++ spec.early_notes (others_view others.now) (spec.early_end_of how.now) (state_of self.old)
             (running_view left.items)) }
     {
         let (crashed, stopped) = self.parted(alloc, how, left)?;
@@ -143,7 +134,7 @@ impl Suite {
             ++ map (spec.stopped_note (state_of self.now)) (running_view tests.items)) }
     {
         for test in tests {
-            notes.push(self.note(self.over(test), TestOutcome::Stopped)?)?;
+            self.push_test(self.over(test), TestOutcome::Stopped, notes)?;
         }
         Ok(())
     }
@@ -169,8 +160,9 @@ impl Suite {
         if left.is_empty() {
             return Ok(());
         }
-        let mut crash = self.crash(alloc, others, end, left.len())?;
+        let running = left.len();
         let later = left.split_off(1)?;
+        let mut crash = self.crash(alloc, others, end, running)?;
         self.crash_all(alloc, &crash, left, notes)?;
         crash.above = true;
         self.crash_all(alloc, &crash, later, notes)
@@ -193,8 +185,8 @@ impl Suite {
             (running_view tests.items)) }
     {
         for test in tests {
-            let kind = FailureKind::Crashed(copy_of(alloc, crash)?);
             self.crashed = one_more(self.crashed)?;
+            let kind = FailureKind::Crashed(copy_of(alloc, crash)?);
             self.fail(test, kind, notes)?;
         }
         Ok(())
@@ -240,7 +232,7 @@ impl Suite {
             message: None,
             reason: None,
         };
-        notes.push(self.note(self.over(test), TestOutcome::Failed(failure))?)?;
+        self.push_test(self.over(test), TestOutcome::Failed(failure), notes)?;
         Ok(())
     }
 
@@ -254,21 +246,20 @@ impl Suite {
         ensures { OnOk result (map note_view notes.new.items ≡ map note_view notes.old.items
             ++ spec.early_disagreements (state_of self.now) end crashed) }
     {
-        match self.shown_name()? {
+        match self.name.shown()? {
             Some(suite) if crashed == 0 => {
                 let disagreement = match self.cancel {
                     Some(reason) => Disagreement::Cancelled(reason),
                     None => Disagreement::EndedEarly { suite, end },
                 };
-                notes.push(Note::Disagreement(disagreement))?;
+                push_disagreement(disagreement, notes)
             }
             None if self.started > 0 => {
                 let started = self.started;
-                notes.push(Note::Disagreement(Disagreement::OutsideSuite { started }))?;
+                push_disagreement(Disagreement::OutsideSuite { started }, notes)
             }
-            _ => {}
+            _ => Ok(()),
         }
-        Ok(())
     }
 
     /// Counts the flaky tests, as failed or as passed.
@@ -287,16 +278,47 @@ impl Suite {
     {
         let flaky_tests = std::mem::replace(&mut self.flaky, FlakyTests::new(alloc));
         for flaky in flaky_tests.tests.into_values() {
-            if have_failed {
-                self.fail_flaky(flaky, notes)?;
-            } else {
-                let (attempts, slow) = (flaky.test.attempts, flaky.test.slow);
-                count(&mut self.stats, Finish::Passed, attempts, slow)?;
-                let output = flaky.stdout;
-                let test = self.known_now(flaky.test);
-                notes.push(self.note(test, TestOutcome::Passed { output })?)?;
-            }
+            self.count_flaky(flaky, have_failed, notes)?;
         }
+        Ok(())
+    }
+
+    /// Counts a flaky test, as failed or as passed.
+    fn count_flaky(
+        &mut self,
+        flaky: FlakyTest,
+        has_failed: bool,
+        notes: &mut Vec<Note>,
+    ) -> Result<(), RunError>
+        ensures counts { OnOk result (state_of self.new ≡ record (state_of self.old) {
+          stats = spec.one_flaky has_failed self.old.stats (flaky_view flaky);
+        }) }
+        ensures tells { OnOk result (map note_view notes.new.items ≡ map note_view notes.old.items
+            ++ spec.flaky_note (state_of self.old) has_failed (flaky_view flaky) ∷ []) }
+    {
+        if has_failed {
+            self.fail_flaky(flaky, notes)
+        } else {
+            self.pass_flaky(flaky, notes)
+        }
+    }
+
+    /// Counts a flaky test as passed.
+    fn pass_flaky(&mut self, flaky: FlakyTest, notes: &mut Vec<Note>) -> Result<(), RunError>
+        ensures counts { OnOk result (state_of self.new ≡ record (state_of self.old) {
+          stats = spec.one_flaky false self.old.stats (flaky_view flaky);
+        }) }
+        ensures tells { OnOk result (map note_view notes.new.items ≡ map note_view notes.old.items
+            ++ spec.flaky_note (state_of self.old) false (flaky_view flaky) ∷ []) }
+    {
+        let (attempts, slow) = (flaky.test.attempts, flaky.test.slow);
+        count(&mut self.stats, Finish::Passed, attempts, slow)?;
+        let output = flaky.stdout;
+        let test = OverTest {
+            cancel: self.cancel,
+            ..flaky.test
+        };
+        self.push_test(test, TestOutcome::Passed { output }, notes)?;
         Ok(())
     }
 
@@ -316,21 +338,24 @@ impl Suite {
             message: flaky.message,
             reason: None,
         };
-        let test = self.known_now(flaky.test);
-        notes.push(self.note(test, TestOutcome::Failed(failure))?)?;
+        let test = OverTest {
+            cancel: self.cancel,
+            ..flaky.test
+        };
+        self.push_test(test, TestOutcome::Failed(failure), notes)?;
         Ok(())
     }
 
-    /// Ends the suite after its last line, and adds its notes. `left` are its running tests. Fails if memory runs
-    /// out, or a number of the suite does not fit.
+    /// Ends the suite after its last line, and adds its notes. `left` are its running tests. The suite must not be used
+    /// afterwards. Fails if memory runs out, or a number of the suite does not fit.
     pub(crate) fn end(
-        mut self,
+        &mut self,
         alloc: Global,
         left: Vec<RunningTest>,
         notes: &mut Vec<Note>,
     ) -> Result<(), RunError>
         ensures { OnOk result (map note_view notes.new.items ≡ map note_view notes.old.items
-            ++ spec.last_notes (state_of self) (running_view left.items)) }
+            ++ spec.last_notes (state_of self.old) (running_view left.items)) }
     {
         let explained = self.explained(left.len())?;
         let mut skipped = left;
@@ -338,7 +363,7 @@ impl Suite {
         self.skip_all(skipped, notes)?;
         let left = self.fail_lost(explained.others_failed, others, notes)?;
         self.release_flaky(alloc, explained.flaky_failed, notes)?;
-        self.push_disagreement(notes)?;
+        self.push_last_line(notes)?;
         let rest = Rest {
             skipped: self.skipped as u128 + explained.skipped as u128 + explained.nameless,
             left,
@@ -352,6 +377,7 @@ impl Suite {
     /// decides this does not fit.
     fn explained(&self, left: usize) -> Result<Explanation, RunError>
         ensures explains { IfOk result (λ explained. (explained ≡ spec.explained_of (state_of self.now) left) × (explained.skipped ≤ left)) }
+        ensures fits { IfOk result (λ explained. self.now.skipped + explained.skipped + explained.nameless < 2 ^ 128) }
     {
         let said = self.said.numbers()?;
         let ignored = self.said.ignored.unwrap_or(0);
@@ -401,27 +427,28 @@ impl Suite {
     {
         for test in tests {
             let outcome = TestOutcome::Skipped { reason: None };
-            notes.push(self.note(self.over(test), outcome)?)?;
+            self.push_test(self.over(test), outcome, notes)?;
         }
         Ok(())
     }
 
     /// Adds a disagreement if the last line contradicts the tests. Fails if memory runs out, or the number of passed
     /// tests that the last lines say does not fit.
-    fn push_disagreement(&self, notes: &mut Vec<Note>) -> Result<(), RunError>
+    fn push_last_line(&self, notes: &mut Vec<Note>) -> Result<(), RunError>
         ensures tells { OnOk result (map note_view notes.new.items ≡ map note_view notes.old.items
             ++ spec.last_disagreement (state_of self.now)) }
     {
         let said = self.said.numbers()?;
         let (passed, failed) = (self.stats.passed, failed_count(&self.stats));
-        let name = self.shown_name()?;
+        let name = self.name.shown()?;
         if let (Some(suite), true) = (name, disagrees(said, passed, failed)) {
-            notes.push(Note::Disagreement(Disagreement::LastLine {
+            let disagreement = Disagreement::LastLine {
                 suite,
                 said,
                 passed,
                 failed,
-            }))?;
+            };
+            push_disagreement(disagreement, notes)?;
         }
         Ok(())
     }
@@ -434,7 +461,7 @@ impl Suite {
         let finished = self.stats.finished_count as u128;
         let initial_run_count = self.initial_run_count(rest);
         let not_run = initial_run_count - finished;
-        if let (Some(suite), true) = (self.shown_name()?, not_run > 0) {
+        if let (Some(suite), true) = (self.name.shown()?, not_run > 0) {
             notes.push(Note::NotRun(NotRun {
                 suite,
                 not_run,
@@ -442,7 +469,7 @@ impl Suite {
             }))?;
         }
         notes.push(Note::Suite(SuiteNote {
-            name: self.shown_name()?,
+            name: self.name.shown()?,
             stats: self.stats,
             skipped: rest.skipped,
             not_run,

@@ -4,7 +4,7 @@ ghost use Rattle.std.specs.Prelude.{◌≡◌, ◌↔◌, ◌⊎◌, ◌++◌, �
 ghost use Rattle.run_events_stats.specs.declared.outcome.run_outcome.RunOutcome.TheVariants as outcomes;
 ghost use Rattle.test_report_events.specs.Content.{events_of};
 ghost use Rattle.test_report_events.specs.Event.{event_view};
-ghost use Rattle.test_report_run_notes.specs.Note.{command_view, disagreement_view, is_new_disagreement, note_view, text_view};
+ghost use Rattle.test_report_run_notes.specs.Note.{Disagrees, command_view, disagreement_view, is_new_disagreement, note_view, text_view};
 ghost use Rattle.test_report_run.specs.Events.{is_after_report, is_event};
 ghost use Rattle.test_report_run.specs.FileEnd as ends;
 ghost use Rattle.test_report_run.specs.Run as spec;
@@ -17,6 +17,7 @@ pub mod progress;
 mod suites;
 mod test_lines;
 
+use crate::disagreements::push_disagreement;
 use crate::early::Ending;
 use crate::error::{RunError, one_more};
 use crate::headings::Headings;
@@ -40,7 +41,6 @@ use test_report_run_notes::note::{
 };
 
 /// A test run, up to the line that was passed last. Pass each line to `on_line`, and end the run by `finish`.
-#[derive(Drop)]
 pub struct TestRun {
     /// The tests of the file that start outside of a suite.
     outside: Suite,
@@ -102,6 +102,37 @@ pub struct TestRun {
 
     /// The names of this file and of those after it. There are none if the run has only one file.
     file_names: VecDeque<String>,
+}
+
+impl Drop for TestRun {
+    fn drop(self) {
+        let TestRun {
+            outside: _,
+            suites: _,
+            headings: _,
+            heading: _,
+            has_event: _,
+            lacked_events: _,
+            others: _,
+            recent: _,
+            reported: _,
+            held: _,
+            of_command: _,
+            command: _,
+            names: _,
+            cancel: _,
+            running: _,
+            ended: _,
+            totals: _,
+            disagreements: _,
+            cancels: _,
+            causes: _,
+            causes_at_file: _,
+            causes_at_cargo: _,
+            slow: _,
+            file_names: _,
+        } = self;
+    }
 }
 
 /// The end of a run.
@@ -299,9 +330,10 @@ impl TestRun {
             ++ (spec.settled_at (run_state self.old) (event_view event.entry)).notes) }
     {
         if is_after_report(event) {
-            self.settle(is_event(event), notes)?;
+            self.settle(is_event(event), notes)
+        } else {
+            Ok(())
         }
-        Ok(())
     }
 
     /// Takes an event, except that its notes are not added to the sums. Fails if memory runs out, or a number of the
@@ -352,11 +384,11 @@ impl TestRun {
             ++ ends.no_event_notes (run_state self.now)) }
     {
         let explained = self.causes > self.causes_at_file || self.command_says_more();
-        if !self.has_event && !explained {
-            let file = self.file_name()?;
-            notes.push(Note::Disagreement(Disagreement::NoEvent { file }))?;
+        if self.has_event || explained {
+            return Ok(());
         }
-        Ok(())
+        let file = self.file_name()?;
+        push_disagreement(Disagreement::NoEvent { file }, notes)
     }
 
     /// Returns the name of the file, if the files of the run have names.
@@ -414,18 +446,25 @@ impl TestRun {
                 if matches!(test.outcome, TestOutcome::Failed(_)) {
                     self.causes = one_more(self.causes)?;
                 }
+                Ok(())
             }
-            Note::Disagreement(disagreement) => {
-                self.disagreements = one_more(self.disagreements)?;
-                if matches!(disagreement, Disagreement::Cancelled(_)) {
-                    self.cancels = one_more(self.cancels)?;
-                }
-                if is_new(disagreement) {
-                    self.causes = one_more(self.causes)?;
-                }
-            }
-            Note::Flaky(_) | Note::NotRun(_) => {}
-            Note::Suite(suite) => self.totals.add(suite)?,
+            Note::Disagreement(disagreement) => self.learn_disagreement(disagreement),
+            Note::Flaky(_) | Note::NotRun(_) => Ok(()),
+            Note::Suite(suite) => self.totals.add(suite),
+        }
+    }
+
+    /// Counts a disagreement. Fails if a sum does not fit.
+    fn learn_disagreement(&mut self, disagreement: &Disagreement) -> Result<(), RunError>
+        ensures learns { OnOk result (run_state self.new
+            ≡ spec.learned (run_state self.old) (Disagrees (disagreement_view disagreement.now) ∷ [])) }
+    {
+        self.disagreements = one_more(self.disagreements)?;
+        if matches!(disagreement, Disagreement::Cancelled(_)) {
+            self.cancels = one_more(self.cancels)?;
+        }
+        if is_new(disagreement) {
+            self.causes = one_more(self.causes)?;
         }
         Ok(())
     }

@@ -1,10 +1,10 @@
 //! An open suite of a run.
 
-ghost use Rattle.std.specs.Prelude.{◌≡◌, ◌==◌, ◌<◌, IfOk, OnOk, option_map, string_bytes};
+ghost use Rattle.std.specs.Prelude.{◌≡◌, ◌==◌, ◌<◌, ◌++◌, ◌∷◌, [], IfOk, OnOk, map, option_map, string_bytes};
 ghost use Rattle.test_report_events.specs.Event.{suite_end_view};
 ghost use Rattle.test_report_run_notes.specs.Note.{note_view, outcome_view, test_view, text_view};
 ghost use Rattle.test_report_run.specs.Others.{no_others, others_view};
-ghost use Rattle.test_report_run.specs.Suite.{has_key, joined_by, named, outside_start, over_view, state_of, suite_name, suite_start, tally_of, test_note, test_of, with_line, with_start};
+ghost use Rattle.test_report_run.specs.Suite.{has_key, joined_by, outside_start, over_view, state_of, suite_name, suite_start, tally_of, test_note, test_of, with_line, with_start};
 
 use crate::error::{RunError, one_more};
 use crate::flaky::FlakyTests;
@@ -70,7 +70,6 @@ pub(crate) struct FlakyTest {
 }
 
 /// An open suite, or the tests of a file that start outside of a suite.
-#[derive(Drop)]
 pub(crate) struct Suite {
     /// The number, the key and the name of the suite.
     pub(crate) name: SuiteName,
@@ -110,6 +109,26 @@ pub(crate) struct Suite {
 
     /// Why the run was cancelled before the suite was over, if it was. The run sets it when the suite is over.
     pub(crate) cancel: Option<CancelReason>,
+}
+
+impl Drop for Suite {
+    fn drop(self) {
+        let Suite {
+            name: _,
+            test_count: _,
+            started: _,
+            open_lines: _,
+            said: _,
+            stats: _,
+            crashed: _,
+            skipped: _,
+            flaky: _,
+            time: _,
+            start: _,
+            last_event: _,
+            cancel: _,
+        } = self;
+    }
 }
 
 impl Suite {
@@ -208,15 +227,6 @@ impl Suite {
         Ok(self.open_lines == 0)
     }
 
-    /// Takes the name in a line of a test of the suite.
-    pub(crate) fn on_name(&mut self, alloc: Global, name: &str) -> Result<(), AllocError>
-        ensures takes { OnOk result (state_of self.new ≡ named (state_of self.old) name.now) }
-        ensures number { self.new.name.number ≡ self.old.name.number }
-        ensures key { text_view self.new.name.key ≡ text_view self.old.name.key }
-    {
-        self.name.take_test(alloc, name)
-    }
-
     /// Takes the start of a test. Fails if memory runs out, or the number of tests that started does not fit.
     pub(crate) fn on_start(&mut self, alloc: Global, name: &str) -> Result<(), RunError>
         ensures takes { OnOk result (state_of self.new ≡ with_start (state_of self.old) name.now) }
@@ -224,15 +234,8 @@ impl Suite {
         ensures key { text_view self.new.name.key ≡ text_view self.old.name.key }
     {
         self.started = one_more(self.started)?;
-        self.on_name(alloc, name)?;
+        self.name.take_test(alloc, name)?;
         Ok(())
-    }
-
-    /// Returns the name of the suite, or `None` for the tests outside of a suite.
-    pub(crate) fn shown_name(&self) -> Result<Option<Rc<String>>, AllocError>
-        ensures { IfOk result (λ name. option_map (λ n. string_bytes n.value) name ≡ suite_name (state_of self.now)) }
-    {
-        self.name.shown()
     }
 
     /// Returns the text of this name.
@@ -253,12 +256,18 @@ impl Suite {
         }
     }
 
-    /// Returns the note of a test of the suite.
-    pub(crate) fn note(&self, test: OverTest, outcome: TestOutcome) -> Result<Note, AllocError>
-        ensures { IfOk result (λ note. note_view note
-            ≡ test_note (state_of self.now) (over_view test) (outcome_view outcome)) }
+    /// Adds the note of a test of the suite.
+    pub(crate) fn push_test(
+        &self,
+        test: OverTest,
+        outcome: TestOutcome,
+        notes: &mut Vec<Note>,
+    ) -> Result<(), AllocError>
+        ensures { OnOk result (map note_view notes.new.items ≡ map note_view notes.old.items
+            ++ test_note (state_of self.now) (over_view test) (outcome_view outcome) ∷ []) }
     {
-        Ok(Note::Test(self.test_note(test, outcome)?))
+        notes.push(Note::Test(self.test_note(test, outcome)?))?;
+        Ok(())
     }
 
     /// Returns what is known of a test of the suite.
@@ -271,7 +280,7 @@ impl Suite {
             ≡ test_of (state_of self.now) (over_view test) (outcome_view outcome)) }
     {
         Ok(TestNote {
-            suite: self.shown_name()?,
+            suite: self.name.shown()?,
             name: test.name,
             attempts: test.attempts,
             time: test.time,

@@ -63,7 +63,7 @@ impl SuiteName {
         ensures first_test { IfOk result (λ name. text_view name.first_test ≡ None) }
     {
         let number = Some(number);
-        let given = given_name(alloc, &key, &heading, &None)?;
+        let given = given_name(alloc, &key, &heading, None)?;
         let shown = shown_name(alloc, number, given)?;
         Ok(SuiteName {
             number,
@@ -86,10 +86,10 @@ impl SuiteName {
         if self.first_test.is_some() {
             return Ok(());
         }
-        let first_test = Some(String::from_str(alloc, name)?);
-        let given = given_name(alloc, &self.key, &self.heading, &first_test)?;
+        let given = given_name(alloc, &self.key, &self.heading, Some(name))?;
         let shown = shown_name(alloc, self.number, given)?;
-        self.first_test = first_test;
+        let first_test = String::from_str(alloc, name)?;
+        self.first_test = Some(first_test);
         self.shown = shown;
         Ok(())
     }
@@ -123,10 +123,10 @@ fn given_name(
     alloc: Global,
     key: &Option<String>,
     heading: &Option<Rc<String>>,
-    first_test: &Option<String>,
+    first_test: Option<&str>,
 ) -> Result<Option<Rc<String>>, AllocError>
     ensures { IfOk result (λ name. option_map (λ n. string_bytes n.value) name
-        ≡ given_by (text_view key.now) (option_map (λ n. string_bytes n.value) heading.now) (text_view first_test.now)) }
+        ≡ given_by (text_view key.now) (option_map (λ n. string_bytes n.value) heading.now) (option_map (λ name. name.now) first_test.entry)) }
 {
     if let Some(key) = key {
         return Ok(Some(shared(alloc, key.as_str())?));
@@ -141,11 +141,11 @@ fn given_name(
 }
 
 /// Returns the part of the name of a test before the first `$`.
-fn before_dollar(test: &Option<String>) -> Option<&str>
+fn before_dollar(test: Option<&str>) -> Option<&str>
     ensures { option_map (λ name. name.now) result
-        ≡ option_and_then before_dollar (text_view test.now) }
+        ≡ option_and_then before_dollar (option_map (λ name. name.now) test.entry) }
 {
-    let (name, _) = test.as_ref()?.split_once('$')?;
+    let (name, _) = test?.split_once('$')?;
     Some(name)
 }
 

@@ -8,6 +8,7 @@ ghost use Rattle.test_report_run.specs.Run as spec;
 ghost use Rattle.test_report_run.specs.Run.{run_state};
 ghost use Rattle.test_report_run.specs.SuiteNames.{names_of};
 
+use crate::disagreements::push_disagreement;
 use crate::error::RunError;
 use crate::run::TestRun;
 use crate::suite_names::SuiteNames;
@@ -94,12 +95,10 @@ impl TestRun {
             return Ok(());
         };
         if command_fails(self.causes, &end) {
-            let disagreement = self.unless_cancelled(Disagreement::Command(end));
-            let note = Note::Disagreement(disagreement);
-            self.learn_note(&note)?;
-            notes.push(note)?;
+            self.push_contradiction(Disagreement::Command(end), notes)
+        } else {
+            Ok(())
         }
-        Ok(())
     }
 }
 
@@ -114,7 +113,7 @@ fn push_reports(
 {
     for mut report in reports {
         report.lacks_events = report.lacks_events && !has_event;
-        notes.push(Note::Disagreement(Disagreement::Cargo(report)))?;
+        push_disagreement(Disagreement::Cargo(report), notes)?;
     }
     Ok(())
 }

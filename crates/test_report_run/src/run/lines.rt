@@ -10,6 +10,7 @@ ghost use Rattle.test_report_run.specs.Run.{run_state};
 ghost use Rattle.std.specs.Str.{bytes_eq};
 
 use crate::cuts::shortened;
+use crate::disagreements::push_disagreement;
 use crate::error::{RunError, one_more};
 use crate::run::TestRun;
 use std::alloc::{AllocError, Global};
@@ -43,7 +44,10 @@ impl TestRun {
         ensures { IfOk result (λ known. text_view known ≡ option_and_then
             (λ p. lookup (bytes_eq p) (run_state self.now).names) (option_map (λ path. path.now) path.entry)) }
     {
-        match path.and_then(|path| self.names.get(path)) {
+        let Some(path) = path else {
+            return Ok(None);
+        };
+        match self.names.get(path) {
             Some(name) => Ok(Some(String::from_str(alloc, name)?)),
             None => Ok(None),
         }
@@ -124,10 +128,10 @@ impl TestRun {
         report.lacks_events = report.lacks_events && !heard;
         if self.of_command {
             self.held.push(report)?;
+            Ok(())
         } else {
-            notes.push(Note::Disagreement(Disagreement::Cargo(report)))?;
+            push_disagreement(Disagreement::Cargo(report), notes)
         }
-        Ok(())
     }
 }
 
@@ -147,8 +151,6 @@ pub(crate) fn push_damaged(
     ensures { OnOk result (map note_view notes.new.items ≡ map note_view notes.old.items
         ++ Disagrees (IsDamaged (cut text.now)) ∷ []) }
 {
-    notes.push(Note::Disagreement(Disagreement::Damaged {
-        text: String::from_str(alloc, shortened(text))?,
-    }))?;
-    Ok(())
+    let text = String::from_str(alloc, shortened(text))?;
+    push_disagreement(Disagreement::Damaged { text }, notes)
 }

@@ -1,12 +1,13 @@
 //! The end of a program whose tests the lines of a run are of.
 
-ghost use Rattle.std.specs.Prelude.{◌≡◌, ◌++◌, IfOk, OnOk, map};
+ghost use Rattle.std.specs.Prelude.{◌≡◌, ◌++◌, ◌∷◌, [], IfOk, OnOk, map};
 ghost use Rattle.test_report_events.specs.Event.{AllEndEarly, ProgramDisagrees};
-ghost use Rattle.test_report_run_notes.specs.Note.{disagreement_view, fault_view, note_view};
+ghost use Rattle.test_report_run_notes.specs.Note.{Disagrees, disagreement_view, fault_view, note_view};
 ghost use Rattle.test_report_run.specs.Over.{early_end_of, early_view};
 ghost use Rattle.test_report_run.specs.Run as spec;
 ghost use Rattle.test_report_run.specs.Run.{run_state};
 
+use crate::disagreements::push_disagreement;
 use crate::early::{EarlyEnd, Ending};
 use crate::error::RunError;
 use crate::run::TestRun;
@@ -70,16 +71,31 @@ impl TestRun {
         ensures takes { OnOk result (run_state self.new
             ≡ spec.after (run_state self.old) (ProgramDisagrees (fault_view fault))) }
     {
-        let disagreement = self.unless_cancelled(Disagreement::Program(fault));
-        let note = Note::Disagreement(disagreement);
-        self.learn_note(&note)?;
         let mut notes = Vec::new(alloc);
-        notes.push(note)?;
+        self.push_contradiction(Disagreement::Program(fault), &mut notes)?;
         Ok(notes)
     }
 
+    /// Adds a contradiction about the end of something, or that the run was cancelled, and counts it. Fails if memory
+    /// runs out, or a sum does not fit.
+    pub(crate) fn push_contradiction(
+        &mut self,
+        disagreement: Disagreement,
+        notes: &mut Vec<Note>,
+    ) -> Result<(), RunError>
+        ensures takes { OnOk result (run_state self.new ≡ spec.learned (run_state self.old)
+            (Disagrees (spec.unless_cancelled (run_state self.old) (disagreement_view disagreement)) ∷ [])) }
+        ensures tells { OnOk result (map note_view notes.new.items ≡ map note_view notes.old.items
+            ++ Disagrees (spec.unless_cancelled (run_state self.old) (disagreement_view disagreement)) ∷ []) }
+    {
+        let disagreement = self.unless_cancelled(disagreement);
+        self.learn_disagreement(&disagreement)?;
+        push_disagreement(disagreement, notes)?;
+        Ok(())
+    }
+
     /// Returns a contradiction about the end of something, or that the run was cancelled.
-    pub(crate) fn unless_cancelled(&self, disagreement: Disagreement) -> Disagreement
+    fn unless_cancelled(&self, disagreement: Disagreement) -> Disagreement
         ensures { disagreement_view result ≡ spec.unless_cancelled (run_state self.now) (disagreement_view disagreement) }
     {
         match self.cancel {

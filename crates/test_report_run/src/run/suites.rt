@@ -9,6 +9,7 @@ ghost use Rattle.test_report_run.specs.Run as spec;
 ghost use Rattle.test_report_run.specs.Run.{run_state};
 ghost use Rattle.test_report_run.specs.Suite.{cancelled_by, has_key, joined_by, state_of, with_line};
 
+use crate::disagreements::push_disagreement;
 use crate::early::Ending;
 use crate::error::{RunError, one_more};
 use crate::run::TestRun;
@@ -33,7 +34,7 @@ impl TestRun {
     {
         let key = key_text(alloc, key)?;
         let test_count = test_count.map(u128::from);
-        match self.open_suite(key.as_deref()) {
+        match self.suites.place_of_key(key.as_deref()) {
             Some(at) => self.start_again(alloc, key, test_count, at, notes),
             None => self.open(alloc, key, test_count),
         }
@@ -122,14 +123,16 @@ impl TestRun {
             ++ (spec.suite_ends (run_state self.old) (suite_end_view end.entry)).notes) }
     {
         let key = key_text(alloc, end.key)?;
-        match self.open_suite(key.as_deref()) {
+        match self.suites.place_of_key(key.as_deref()) {
             Some(at) => self.end_at(alloc, end, at, notes),
             None => {
                 if counts_tests(end) {
-                    notes.push(Note::Disagreement(Disagreement::StraySuiteEnd {
+                    let failed_verdict = end.failed_verdict;
+                    let stray = Disagreement::StraySuiteEnd {
                         key,
-                        failed_verdict: end.failed_verdict,
-                    }))?;
+                        failed_verdict,
+                    };
+                    push_disagreement(stray, notes)?;
                 }
                 Ok(())
             }
@@ -152,8 +155,8 @@ impl TestRun {
             ++ (spec.ended_at (run_state self.old) (suite_end_view end.entry) at).notes) }
     {
         if self.add_last_line(end, at)? {
-            let suite = self.take_out(at);
-            self.end_suite(alloc, suite, notes)
+            let mut suite = self.take_out(at);
+            self.end_suite(alloc, &mut suite, notes)
         } else {
             Ok(())
         }
@@ -178,14 +181,14 @@ impl TestRun {
     fn end_suite(
         &mut self,
         alloc: Global,
-        mut suite: Suite,
+        suite: &mut Suite,
         notes: &mut Vec<Note>,
     ) -> Result<(), RunError>
         ensures takes { OnOk result (run_state self.new
-            ≡ spec.without_tests (run_state self.old) (state_of suite)) }
+            ≡ spec.without_tests (run_state self.old) (state_of suite.old)) }
         ensures tells { OnOk result (map note_view notes.new.items ≡ map note_view notes.old.items
-            ++ last_notes (cancelled_by self.old.cancel (state_of suite))
-            (spec.tests_in (run_state self.old) (state_of suite))) }
+            ++ last_notes (cancelled_by self.old.cancel (state_of suite.old))
+            (spec.tests_in (run_state self.old) (state_of suite.old))) }
     {
         let left = self.running.take_suite(alloc, suite.name.number)?;
         suite.cancel = self.cancel;
@@ -208,13 +211,6 @@ impl TestRun {
         suite.cancel = self.cancel;
         suite.end_early(alloc, &self.others, how, left, notes)
     }
-
-    /// Returns the position of the first open suite with a key, or without a key.
-    pub(crate) fn open_suite(&self, key: Option<&str>) -> Option<usize>
-        ensures { result ≡ spec.open_suite (run_state self.now) (option_map (λ key. key.now) key.entry) }
-    {
-        self.suites.place_of_key(key)
-    }
 }
 
 /// Returns the text of a key.
@@ -232,7 +228,17 @@ fn counts_tests(end: SuiteEnd<'_>) -> bool
     ensures { result ≡ spec.counts_tests (suite_end_view end.entry) }
 {
     end.failed_verdict
-        || end.passed.is_some_and(|count| count > 0)
-        || end.measured.is_some_and(|count| count > 0)
-        || end.failed.is_some_and(|count| count > 0)
+        || is_above_0(end.passed)
+        || is_above_0(end.measured)
+        || is_above_0(end.failed)
+}
+
+/// Returns true if a number is known and above 0.
+fn is_above_0(count: Option<u64>) -> bool
+    ensures { result ≡ spec.is_above_0 count }
+{
+    match count {
+        Some(count) => count > 0,
+        None => false,
+    }
 }

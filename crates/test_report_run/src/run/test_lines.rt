@@ -7,6 +7,7 @@ ghost use Rattle.test_report_run.specs.Run as spec;
 ghost use Rattle.test_report_run.specs.Run.{run_state};
 ghost use Rattle.test_report_run.specs.Running.{running_test_view};
 
+use crate::disagreements::push_disagreement;
 use crate::error::{RunError, one_more};
 use crate::run::TestRun;
 use crate::running::RunningTest;
@@ -63,7 +64,7 @@ impl TestRun {
             (spec.place_of_number (run_state self.old) number) }
     {
         let place = self.others.event_place();
-        match self.suite_of_number(number) {
+        match self.suites.place_of_number(number) {
             Some(at) => self.suites.list[at].last_event = place,
             None => self.outside.last_event = place,
         }
@@ -80,7 +81,10 @@ impl TestRun {
     fn is_long(&self, time: Option<u64>) -> bool
         ensures { result ≡ spec.is_long (run_state self.now) time }
     {
-        time.is_some_and(|time| self.slow <= time)
+        match time {
+            Some(time) => self.slow <= time,
+            None => false,
+        }
     }
 
     /// Returns the position of the open suite that a starting test with this name belongs to, or `None` if no
@@ -92,13 +96,14 @@ impl TestRun {
             return Some(0);
         }
         let named = match name.split_once('$') {
-            Some((key, _)) => self.open_suite(Some(key)),
+            Some((key, _)) => self.suites.place_of_key(Some(key)),
             None => None,
         };
         if named.is_some() {
             return named;
         }
-        self.open_suite(None)
+        self.suites
+            .place_of_key(None)
             .or(self.suites.list.len().checked_sub(1))
     }
 
@@ -160,7 +165,7 @@ impl TestRun {
     {
         let order = test.order;
         let slow = self.is_slow(&test, details.time);
-        let place = self.suite_of_number(test.suite);
+        let place = self.suites.place_of_number(test.suite);
         let over = OverTest {
             name: test.name,
             attempts,
@@ -186,13 +191,6 @@ impl TestRun {
         }
     }
 
-    /// Returns the position of the open suite with a number.
-    fn suite_of_number(&self, number: Option<usize>) -> Option<usize>
-        ensures { result ≡ spec.place_of_number (run_state self.now) number }
-    {
-        self.suites.place_of_number(number)
-    }
-
     /// Takes the end of a test that is not running. The test is counted unless it passed. The end is a
     /// disagreement unless the test was ignored.
     fn on_stray_end(
@@ -212,10 +210,8 @@ impl TestRun {
             self.count_stray(alloc, name, end, details, notes)?;
         }
         if end != TestResult::Ignored {
-            notes.push(Note::Disagreement(Disagreement::StrayEnd {
-                name: String::from_str(alloc, name)?,
-                result: end,
-            }))?;
+            let name = String::from_str(alloc, name)?;
+            push_disagreement(Disagreement::StrayEnd { name, result: end }, notes)?;
         }
         Ok(())
     }

@@ -20,13 +20,13 @@ fn owned(text: Option<&str>) -> Option<String> {
 /// Returns the failure of a test, from the line that says that it failed.
 fn failure_of(details: TestDetails<'_>) -> Failure {
     Failure {
+        stdout: owned(details.stdout),
+        message: owned(details.message),
+        reason: owned(details.reason),
         kind: match details.reason {
             Some(TIME_LIMIT) => FailureKind::TimedOut,
             _ => FailureKind::Failed,
         },
-        stdout: owned(details.stdout),
-        message: owned(details.message),
-        reason: owned(details.reason),
     }
 }
 
@@ -42,26 +42,52 @@ impl Suite {
         details: TestDetails<'_>,
         notes: &mut Vec<Note>,
     ) -> Result<(), RunError> {
-        if end == TestResult::Ignored {
-            self.skipped = one_more(self.skipped)?;
-            let reason = owned(details.message);
-            notes.push(self.note(test, TestOutcome::Skipped { reason }));
-            return Ok(());
+        match end {
+            TestResult::Ok => self.on_passed(test, order, details, notes),
+            TestResult::Failed => self.on_failed(test, details, notes),
+            TestResult::Ignored => self.on_ignored(test, details, notes),
         }
-        self.time = time_sum(self.time, details.time);
-        if end == TestResult::Failed {
-            return self.on_failed(test, details, notes);
-        }
-        let output = owned(details.stdout);
-        let outcome = TestOutcome::Passed { output };
-        if test.attempts > 1 {
-            notes.push(Note::Flaky(self.test_note(test.duplicate(), outcome)));
-            self.on_flaky(test, order, details);
-            return Ok(());
-        }
-        count(&mut self.stats, Finish::Passed, 1, test.slow)?;
-        notes.push(self.note(test, outcome));
+    }
+
+    /// Takes the end of a test that was ignored. Fails if memory runs out, or a number of the suite does not fit.
+    fn on_ignored(
+        &mut self,
+        test: OverTest,
+        details: TestDetails<'_>,
+        notes: &mut Vec<Note>,
+    ) -> Result<(), RunError> {
+        self.skipped = one_more(self.skipped)?;
+        let reason = owned(details.message);
+        self.push_test(test, TestOutcome::Skipped { reason }, notes);
         Ok(())
+    }
+
+    /// Takes the end of a test that passed. Fails if memory runs out, or a number of the suite does not fit.
+    fn on_passed(
+        &mut self,
+        test: OverTest,
+        order: usize,
+        details: TestDetails<'_>,
+        notes: &mut Vec<Note>,
+    ) -> Result<(), RunError> {
+        self.time = time_sum(self.time, details.time);
+        if test.attempts > 1 {
+            self.push_flaky(&test, details, notes);
+            self.on_flaky(test, order, details);
+        } else {
+            count(&mut self.stats, Finish::Passed, 1, test.slow)?;
+            let output = owned(details.stdout);
+            self.push_test(test, TestOutcome::Passed { output }, notes);
+        }
+        Ok(())
+    }
+
+    /// Adds the note that a test passed after several attempts.
+    fn push_flaky(&self, test: &OverTest, details: TestDetails<'_>, notes: &mut Vec<Note>) {
+        let copy = test.duplicate();
+        let output = owned(details.stdout);
+        let note = self.test_note(copy, TestOutcome::Passed { output });
+        notes.push(Note::Flaky(note));
     }
 
     /// Takes the end of a test that was not running. Fails if memory runs out, or a number of the suite does not
@@ -73,7 +99,7 @@ impl Suite {
         details: TestDetails<'_>,
         notes: &mut Vec<Note>,
     ) -> Result<(), RunError> {
-        self.on_name(test.name.as_str());
+        self.name.take_test(test.name.as_str());
         self.on_end(test, 0, end, details, notes)
     }
 
@@ -84,6 +110,7 @@ impl Suite {
         details: TestDetails<'_>,
         notes: &mut Vec<Note>,
     ) -> Result<(), RunError> {
+        self.time = time_sum(self.time, details.time);
         let failure = failure_of(details);
         count(
             &mut self.stats,
@@ -91,7 +118,7 @@ impl Suite {
             test.attempts,
             test.slow,
         )?;
-        notes.push(self.note(test, TestOutcome::Failed(failure)));
+        self.push_test(test, TestOutcome::Failed(failure), notes);
         Ok(())
     }
 

@@ -35,9 +35,9 @@ impl Headings {
 
     /// Adds a path to those of a name, and returns its number.
     fn number(&mut self, name: &str, path: Option<&str>) -> usize {
-        let path = owned(path);
         let name = String::from(name);
         let paths = self.names.entry(name).or_insert(Paths::new());
+        let path = owned(path);
         paths.number(path)
     }
 }

@@ -121,6 +121,14 @@ fn says_flaky_failed(tally: Tally, said: SaidNumbers, failed: u128) -> bool {
 /// of them failed.
 pub(crate) fn disagrees(said: SaidNumbers, passed: usize, failed: usize) -> bool {
     said.failed_verdict != (failed > 0)
-        || said.passed.is_some_and(|number| number != passed as u128)
-        || said.failed.is_some_and(|number| number != failed as u128)
+        || is_other(said.passed, passed)
+        || is_other(said.failed, failed)
+}
+
+/// Returns true if a last line has a number, and it is not this one.
+fn is_other(said: Option<u128>, number: usize) -> bool {
+    match said {
+        Some(said) => said != number as u128,
+        None => false,
+    }
 }

@@ -37,6 +37,7 @@
 
 mod counted;
 mod cuts;
+mod disagreements;
 pub mod early;
 mod ended;
 pub mod error;

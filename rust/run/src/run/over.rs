@@ -7,6 +7,7 @@ use crate::notes::note::{
     Crash, Disagreement, Failure, FailureKind, NotRun, Note, SuiteNote, TestOutcome, failed_count,
 };
 use crate::run::counted::count;
+use crate::run::disagreements::push_disagreement;
 use crate::run::early::Ending;
 use crate::run::error::{RunError, one_more};
 use crate::run::flaky::FlakyTests;
@@ -48,14 +49,6 @@ fn copy_of(crash: &Crash) -> Crash {
 }
 
 impl Suite {
-    /// Returns a test of the suite with the cancel reason of the suite.
-    fn known_now(&self, test: OverTest) -> OverTest {
-        OverTest {
-            cancel: self.cancel,
-            ..test
-        }
-    }
-
     /// Returns a test of the suite that has no line of its end.
     fn over(&self, test: RunningTest) -> OverTest {
         OverTest {
@@ -69,10 +62,10 @@ impl Suite {
     }
 
     /// Ends the suite without a last line, and adds its notes. `left` are its running tests, and `how` says which of
-    /// them crashed. `others` are the lines of the file that are no events. Fails if memory runs out, or a number of the
-    /// suite does not fit.
+    /// them crashed. `others` are the lines of the file that are no events. The suite must not be used afterwards. Fails if
+    /// memory runs out, or a number of the suite does not fit.
     pub(crate) fn end_early(
-        mut self,
+        &mut self,
         others: &Others,
         how: &Ending,
         left: Vec<RunningTest>,
@@ -109,7 +102,7 @@ impl Suite {
     /// Adds that tests without end were stopped.
     fn stop_all(&self, tests: Vec<RunningTest>, notes: &mut Vec<Note>) {
         for test in tests {
-            notes.push(self.note(self.over(test), TestOutcome::Stopped));
+            self.push_test(self.over(test), TestOutcome::Stopped, notes);
         }
     }
 
@@ -125,8 +118,9 @@ impl Suite {
         if left.is_empty() {
             return Ok(());
         }
-        let mut crash = self.crash(others, end, left.len());
+        let running = left.len();
         let later = left.split_off(1);
+        let mut crash = self.crash(others, end, running);
         self.crash_all(&crash, left, notes)?;
         crash.above = true;
         self.crash_all(&crash, later, notes)
@@ -140,8 +134,8 @@ impl Suite {
         notes: &mut Vec<Note>,
     ) -> Result<(), RunError> {
         for test in tests {
-            let kind = FailureKind::Crashed(copy_of(crash));
             self.crashed = one_more(self.crashed)?;
+            let kind = FailureKind::Crashed(copy_of(crash));
             self.fail(test, kind, notes)?;
         }
         Ok(())
@@ -174,23 +168,23 @@ impl Suite {
             message: None,
             reason: None,
         };
-        notes.push(self.note(self.over(test), TestOutcome::Failed(failure)));
+        self.push_test(self.over(test), TestOutcome::Failed(failure), notes);
         Ok(())
     }
 
     /// Adds the disagreement of a suite that ends early, if there is one.
     fn push_early_end(&self, end: Option<ProgramEnd>, crashed: usize, notes: &mut Vec<Note>) {
-        match self.shown_name() {
+        match self.name.shown() {
             Some(suite) if crashed == 0 => {
                 let disagreement = match self.cancel {
                     Some(reason) => Disagreement::Cancelled(reason),
                     None => Disagreement::EndedEarly { suite, end },
                 };
-                notes.push(Note::Disagreement(disagreement));
+                push_disagreement(disagreement, notes);
             }
             None if self.started > 0 => {
                 let started = self.started;
-                notes.push(Note::Disagreement(Disagreement::OutsideSuite { started }));
+                push_disagreement(Disagreement::OutsideSuite { started }, notes);
             }
             _ => {}
         }
@@ -200,16 +194,35 @@ impl Suite {
     fn release_flaky(&mut self, have_failed: bool, notes: &mut Vec<Note>) -> Result<(), RunError> {
         let flaky_tests = std::mem::replace(&mut self.flaky, FlakyTests::new());
         for flaky in flaky_tests.tests.into_values() {
-            if have_failed {
-                self.fail_flaky(flaky, notes)?;
-            } else {
-                let (attempts, slow) = (flaky.test.attempts, flaky.test.slow);
-                count(&mut self.stats, Finish::Passed, attempts, slow)?;
-                let output = flaky.stdout;
-                let test = self.known_now(flaky.test);
-                notes.push(self.note(test, TestOutcome::Passed { output }));
-            }
+            self.count_flaky(flaky, have_failed, notes)?;
         }
+        Ok(())
+    }
+
+    /// Counts a flaky test, as failed or as passed.
+    fn count_flaky(
+        &mut self,
+        flaky: FlakyTest,
+        has_failed: bool,
+        notes: &mut Vec<Note>,
+    ) -> Result<(), RunError> {
+        if has_failed {
+            self.fail_flaky(flaky, notes)
+        } else {
+            self.pass_flaky(flaky, notes)
+        }
+    }
+
+    /// Counts a flaky test as passed.
+    fn pass_flaky(&mut self, flaky: FlakyTest, notes: &mut Vec<Note>) -> Result<(), RunError> {
+        let (attempts, slow) = (flaky.test.attempts, flaky.test.slow);
+        count(&mut self.stats, Finish::Passed, attempts, slow)?;
+        let output = flaky.stdout;
+        let test = OverTest {
+            cancel: self.cancel,
+            ..flaky.test
+        };
+        self.push_test(test, TestOutcome::Passed { output }, notes);
         Ok(())
     }
 
@@ -223,15 +236,18 @@ impl Suite {
             message: flaky.message,
             reason: None,
         };
-        let test = self.known_now(flaky.test);
-        notes.push(self.note(test, TestOutcome::Failed(failure)));
+        let test = OverTest {
+            cancel: self.cancel,
+            ..flaky.test
+        };
+        self.push_test(test, TestOutcome::Failed(failure), notes);
         Ok(())
     }
 
-    /// Ends the suite after its last line, and adds its notes. `left` are its running tests. Fails if memory runs
-    /// out, or a number of the suite does not fit.
+    /// Ends the suite after its last line, and adds its notes. `left` are its running tests. The suite must not be used
+    /// afterwards. Fails if memory runs out, or a number of the suite does not fit.
     pub(crate) fn end(
-        mut self,
+        &mut self,
         left: Vec<RunningTest>,
         notes: &mut Vec<Note>,
     ) -> Result<(), RunError> {
@@ -241,7 +257,7 @@ impl Suite {
         self.skip_all(skipped, notes);
         let left = self.fail_lost(explained.others_failed, others, notes)?;
         self.release_flaky(explained.flaky_failed, notes)?;
-        self.push_disagreement(notes)?;
+        self.push_last_line(notes)?;
         let rest = Rest {
             skipped: self.skipped as u128 + explained.skipped as u128 + explained.nameless,
             left,
@@ -286,23 +302,24 @@ impl Suite {
     fn skip_all(&self, tests: Vec<RunningTest>, notes: &mut Vec<Note>) {
         for test in tests {
             let outcome = TestOutcome::Skipped { reason: None };
-            notes.push(self.note(self.over(test), outcome));
+            self.push_test(self.over(test), outcome, notes);
         }
     }
 
     /// Adds a disagreement if the last line contradicts the tests. Fails if memory runs out, or the number of passed
     /// tests that the last lines say does not fit.
-    fn push_disagreement(&self, notes: &mut Vec<Note>) -> Result<(), RunError> {
+    fn push_last_line(&self, notes: &mut Vec<Note>) -> Result<(), RunError> {
         let said = self.said.numbers()?;
         let (passed, failed) = (self.stats.passed, failed_count(&self.stats));
-        let name = self.shown_name();
+        let name = self.name.shown();
         if let (Some(suite), true) = (name, disagrees(said, passed, failed)) {
-            notes.push(Note::Disagreement(Disagreement::LastLine {
+            let disagreement = Disagreement::LastLine {
                 suite,
                 said,
                 passed,
                 failed,
-            }));
+            };
+            push_disagreement(disagreement, notes);
         }
         Ok(())
     }
@@ -312,7 +329,7 @@ impl Suite {
         let finished = self.stats.finished_count as u128;
         let initial_run_count = self.initial_run_count(rest);
         let not_run = initial_run_count - finished;
-        if let (Some(suite), true) = (self.shown_name(), not_run > 0) {
+        if let (Some(suite), true) = (self.name.shown(), not_run > 0) {
             notes.push(Note::NotRun(NotRun {
                 suite,
                 not_run,
@@ -320,7 +337,7 @@ impl Suite {
             }));
         }
         notes.push(Note::Suite(SuiteNote {
-            name: self.shown_name(),
+            name: self.name.shown(),
             stats: self.stats,
             skipped: rest.skipped,
             not_run,

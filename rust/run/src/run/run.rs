@@ -11,6 +11,7 @@ mod test_lines;
 use crate::events::event::Event;
 use crate::events::line::Line;
 use crate::notes::note::{CargoReport, CommandEnd, Disagreement, Note, RunEnd, TestOutcome};
+use crate::run::disagreements::push_disagreement;
 use crate::run::early::Ending;
 use crate::run::error::{RunError, one_more};
 use crate::run::headings::Headings;
@@ -277,10 +278,11 @@ impl TestRun {
     /// unless its command ended with status 0 or was not started.
     fn push_no_event(&self, notes: &mut Vec<Note>) {
         let explained = self.causes > self.causes_at_file || self.command_says_more();
-        if !self.has_event && !explained {
-            let file = self.file_name();
-            notes.push(Note::Disagreement(Disagreement::NoEvent { file }));
+        if self.has_event || explained {
+            return;
         }
+        let file = self.file_name();
+        push_disagreement(Disagreement::NoEvent { file }, notes);
     }
 
     /// Returns the name of the file, if the files of the run have names.
@@ -322,18 +324,22 @@ impl TestRun {
                 if matches!(test.outcome, TestOutcome::Failed(_)) {
                     self.causes = one_more(self.causes)?;
                 }
+                Ok(())
             }
-            Note::Disagreement(disagreement) => {
-                self.disagreements = one_more(self.disagreements)?;
-                if matches!(disagreement, Disagreement::Cancelled(_)) {
-                    self.cancels = one_more(self.cancels)?;
-                }
-                if is_new(disagreement) {
-                    self.causes = one_more(self.causes)?;
-                }
-            }
-            Note::Flaky(_) | Note::NotRun(_) => {}
-            Note::Suite(suite) => self.totals.add(suite)?,
+            Note::Disagreement(disagreement) => self.learn_disagreement(disagreement),
+            Note::Flaky(_) | Note::NotRun(_) => Ok(()),
+            Note::Suite(suite) => self.totals.add(suite),
+        }
+    }
+
+    /// Counts a disagreement. Fails if a sum does not fit.
+    fn learn_disagreement(&mut self, disagreement: &Disagreement) -> Result<(), RunError> {
+        self.disagreements = one_more(self.disagreements)?;
+        if matches!(disagreement, Disagreement::Cancelled(_)) {
+            self.cancels = one_more(self.cancels)?;
+        }
+        if is_new(disagreement) {
+            self.causes = one_more(self.causes)?;
         }
         Ok(())
     }

@@ -166,21 +166,11 @@ impl Suite {
         Ok(self.open_lines == 0)
     }
 
-    /// Takes the name in a line of a test of the suite.
-    pub(crate) fn on_name(&mut self, name: &str) {
-        self.name.take_test(name);
-    }
-
     /// Takes the start of a test. Fails if memory runs out, or the number of tests that started does not fit.
     pub(crate) fn on_start(&mut self, name: &str) -> Result<(), RunError> {
         self.started = one_more(self.started)?;
-        self.on_name(name);
+        self.name.take_test(name);
         Ok(())
-    }
-
-    /// Returns the name of the suite, or `None` for the tests outside of a suite.
-    pub(crate) fn shown_name(&self) -> Option<Rc<String>> {
-        self.name.shown()
     }
 
     /// Returns the text of this name.
@@ -197,15 +187,15 @@ impl Suite {
         }
     }
 
-    /// Returns the note of a test of the suite.
-    pub(crate) fn note(&self, test: OverTest, outcome: TestOutcome) -> Note {
-        Note::Test(self.test_note(test, outcome))
+    /// Adds the note of a test of the suite.
+    pub(crate) fn push_test(&self, test: OverTest, outcome: TestOutcome, notes: &mut Vec<Note>) {
+        notes.push(Note::Test(self.test_note(test, outcome)));
     }
 
     /// Returns what is known of a test of the suite.
     pub(crate) fn test_note(&self, test: OverTest, outcome: TestOutcome) -> TestNote {
         TestNote {
-            suite: self.shown_name(),
+            suite: self.name.shown(),
             name: test.name,
             attempts: test.attempts,
             time: test.time,

@@ -43,7 +43,7 @@ impl SuiteName {
         heading: Option<Rc<String>>,
     ) -> SuiteName {
         let number = Some(number);
-        let given = given_name(&key, &heading, &None);
+        let given = given_name(&key, &heading, None);
         let shown = shown_name(number, given);
         SuiteName {
             number,
@@ -59,10 +59,10 @@ impl SuiteName {
         if self.first_test.is_some() {
             return;
         }
-        let first_test = Some(String::from(name));
-        let given = given_name(&self.key, &self.heading, &first_test);
+        let given = given_name(&self.key, &self.heading, Some(name));
         let shown = shown_name(self.number, given);
-        self.first_test = first_test;
+        let first_test = String::from(name);
+        self.first_test = Some(first_test);
         self.shown = shown;
     }
 
@@ -82,7 +82,7 @@ impl SuiteName {
 fn given_name(
     key: &Option<String>,
     heading: &Option<Rc<String>>,
-    first_test: &Option<String>,
+    first_test: Option<&str>,
 ) -> Option<Rc<String>> {
     if let Some(key) = key {
         return Some(shared(key.as_str()));
@@ -94,8 +94,8 @@ fn given_name(
 }
 
 /// Returns the part of the name of a test before the first `$`.
-fn before_dollar(test: &Option<String>) -> Option<&str> {
-    let (name, _) = test.as_ref()?.split_once('$')?;
+fn before_dollar(test: Option<&str>) -> Option<&str> {
+    let (name, _) = test?.split_once('$')?;
     Some(name)
 }
 

@@ -34,16 +34,15 @@ impl OpenSuites {
         others: &Others,
     ) -> Result<(), RunError> {
         let number = one_more(self.started)?;
+        let suite = Suite::new(number, key, heading, test_count, others);
+        let boxed = Box::new(suite);
         let OpenSuites {
             mut list,
             mut numbers,
             mut keys,
             started: _,
         } = std::mem::replace(self, OpenSuites::new());
-        keys.insert(&key, number);
-        let suite = Suite::new(number, key, heading, test_count, others);
-        numbers.push(number);
-        list.push(Box::new(suite));
+        add(boxed, number, &mut list, &mut numbers, &mut keys);
         *self = OpenSuites {
             list,
             numbers,
@@ -84,4 +83,17 @@ impl OpenSuites {
     pub(crate) fn place_of_number(&self, number: Option<usize>) -> Option<usize> {
         self.numbers.binary_search(&number?).ok()
     }
+}
+
+/// Adds a suite with this number to others, to their numbers, and to their numbers by their keys.
+fn add(
+    suite: Box<Suite>,
+    number: usize,
+    list: &mut Vec<Box<Suite>>,
+    numbers: &mut Vec<usize>,
+    keys: &mut KeyNumbers,
+) {
+    keys.insert(&suite.name.key, number);
+    numbers.push(number);
+    list.push(suite);
 }

@@ -2,6 +2,7 @@
 //! The command whose output the lines of a run are.
 
 use crate::notes::note::{CargoReport, CommandEnd, Disagreement, Note};
+use crate::run::disagreements::push_disagreement;
 use crate::run::error::RunError;
 use crate::run::run::TestRun;
 use crate::run::suite_names::SuiteNames;
@@ -61,12 +62,10 @@ impl TestRun {
             return Ok(());
         };
         if command_fails(self.causes, &end) {
-            let disagreement = self.unless_cancelled(Disagreement::Command(end));
-            let note = Note::Disagreement(disagreement);
-            self.learn_note(&note)?;
-            notes.push(note);
+            self.push_contradiction(Disagreement::Command(end), notes)
+        } else {
+            Ok(())
         }
-        Ok(())
     }
 }
 
@@ -74,7 +73,7 @@ impl TestRun {
 fn push_reports(reports: Vec<CargoReport>, has_event: bool, notes: &mut Vec<Note>) {
     for mut report in reports {
         report.lacks_events = report.lacks_events && !has_event;
-        notes.push(Note::Disagreement(Disagreement::Cargo(report)));
+        push_disagreement(Disagreement::Cargo(report), notes);
     }
 }
 

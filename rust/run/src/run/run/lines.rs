@@ -4,6 +4,7 @@
 use crate::events::event::CargoFailure;
 use crate::notes::note::{CargoReport, Disagreement, Note};
 use crate::run::cuts::shortened;
+use crate::run::disagreements::push_disagreement;
 use crate::run::error::{RunError, one_more};
 use crate::run::run::TestRun;
 use std::rc::Rc;
@@ -23,7 +24,8 @@ impl TestRun {
 
     /// Returns the name that is known of the suites of the binary with this path.
     fn known_name(&self, path: Option<&str>) -> Option<String> {
-        path.and_then(|path| self.names.get(path)).map(String::from)
+        let path = path?;
+        self.names.get(path).map(String::from)
     }
 
     /// Takes a print. Fails if memory runs out, or the number of prints does not fit.
@@ -84,7 +86,7 @@ impl TestRun {
         if self.of_command {
             self.held.push(report);
         } else {
-            notes.push(Note::Disagreement(Disagreement::Cargo(report)));
+            push_disagreement(Disagreement::Cargo(report), notes);
         }
     }
 }
@@ -96,7 +98,6 @@ fn begins(line: &[u8], front: &[u8]) -> bool {
 
 /// Adds the disagreement of a damaged line that says a failure.
 pub(crate) fn push_damaged(text: &str, notes: &mut Vec<Note>) {
-    notes.push(Note::Disagreement(Disagreement::Damaged {
-        text: String::from(shortened(text)),
-    }));
+    let text = String::from(shortened(text));
+    push_disagreement(Disagreement::Damaged { text }, notes);
 }

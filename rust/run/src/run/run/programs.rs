@@ -2,6 +2,7 @@
 //! The end of a program whose tests the lines of a run are of.
 
 use crate::notes::note::{Disagreement, Note, ProgramFault};
+use crate::run::disagreements::push_disagreement;
 use crate::run::early::{EarlyEnd, Ending};
 use crate::run::error::RunError;
 use crate::run::run::TestRun;
@@ -43,15 +44,26 @@ impl TestRun {
     ///
     /// Fails if a number of the run does not fit its counter. After an error the run must not be used.
     pub fn on_program_fault(&mut self, fault: ProgramFault) -> Result<Vec<Note>, RunError> {
-        let disagreement = self.unless_cancelled(Disagreement::Program(fault));
-        let note = Note::Disagreement(disagreement);
-        self.learn_note(&note)?;
-        let notes = vec![note];
+        let mut notes = Vec::new();
+        self.push_contradiction(Disagreement::Program(fault), &mut notes)?;
         Ok(notes)
     }
 
+    /// Adds a contradiction about the end of something, or that the run was cancelled, and counts it. Fails if memory
+    /// runs out, or a sum does not fit.
+    pub(crate) fn push_contradiction(
+        &mut self,
+        disagreement: Disagreement,
+        notes: &mut Vec<Note>,
+    ) -> Result<(), RunError> {
+        let disagreement = self.unless_cancelled(disagreement);
+        self.learn_disagreement(&disagreement)?;
+        push_disagreement(disagreement, notes);
+        Ok(())
+    }
+
     /// Returns a contradiction about the end of something, or that the run was cancelled.
-    pub(crate) fn unless_cancelled(&self, disagreement: Disagreement) -> Disagreement {
+    fn unless_cancelled(&self, disagreement: Disagreement) -> Disagreement {
         match self.cancel {
             Some(reason) => Disagreement::Cancelled(reason),
             None => disagreement,

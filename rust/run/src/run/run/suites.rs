@@ -3,6 +3,7 @@
 
 use crate::events::event::{SuiteEnd, SuiteKey};
 use crate::notes::note::{Disagreement, Note};
+use crate::run::disagreements::push_disagreement;
 use crate::run::early::Ending;
 use crate::run::error::RunError;
 use crate::run::run::TestRun;
@@ -18,7 +19,7 @@ impl TestRun {
     ) -> Result<(), RunError> {
         let key = key_text(key);
         let test_count = test_count.map(u128::from);
-        match self.open_suite(key.as_deref()) {
+        match self.suites.place_of_key(key.as_deref()) {
             Some(at) => self.start_again(key, test_count, at, notes),
             None => self.open(key, test_count),
         }
@@ -70,14 +71,16 @@ impl TestRun {
         notes: &mut Vec<Note>,
     ) -> Result<(), RunError> {
         let key = key_text(end.key);
-        match self.open_suite(key.as_deref()) {
+        match self.suites.place_of_key(key.as_deref()) {
             Some(at) => self.end_at(end, at, notes),
             None => {
                 if counts_tests(end) {
-                    notes.push(Note::Disagreement(Disagreement::StraySuiteEnd {
+                    let failed_verdict = end.failed_verdict;
+                    let stray = Disagreement::StraySuiteEnd {
                         key,
-                        failed_verdict: end.failed_verdict,
-                    }));
+                        failed_verdict,
+                    };
+                    push_disagreement(stray, notes);
                 }
                 Ok(())
             }
@@ -93,8 +96,8 @@ impl TestRun {
         notes: &mut Vec<Note>,
     ) -> Result<(), RunError> {
         if self.add_last_line(end, at)? {
-            let suite = self.take_out(at);
-            self.end_suite(suite, notes)
+            let mut suite = self.take_out(at);
+            self.end_suite(&mut suite, notes)
         } else {
             Ok(())
         }
@@ -110,7 +113,7 @@ impl TestRun {
     }
 
     /// Ends a suite that has its last line.
-    fn end_suite(&mut self, mut suite: Suite, notes: &mut Vec<Note>) -> Result<(), RunError> {
+    fn end_suite(&mut self, suite: &mut Suite, notes: &mut Vec<Note>) -> Result<(), RunError> {
         let left = self.running.take_suite(suite.name.number);
         suite.cancel = self.cancel;
         suite.end(left, notes)
@@ -127,11 +130,6 @@ impl TestRun {
         suite.cancel = self.cancel;
         suite.end_early(&self.others, how, left, notes)
     }
-
-    /// Returns the position of the first open suite with a key, or without a key.
-    pub(crate) fn open_suite(&self, key: Option<&str>) -> Option<usize> {
-        self.suites.place_of_key(key)
-    }
 }
 
 /// Returns the text of a key.
@@ -142,7 +140,15 @@ fn key_text(key: Option<SuiteKey<'_>>) -> Option<String> {
 /// Returns true if a last line says that the suite failed, or counts a test that ran.
 fn counts_tests(end: SuiteEnd<'_>) -> bool {
     end.failed_verdict
-        || end.passed.is_some_and(|count| count > 0)
-        || end.measured.is_some_and(|count| count > 0)
-        || end.failed.is_some_and(|count| count > 0)
+        || is_above_0(end.passed)
+        || is_above_0(end.measured)
+        || is_above_0(end.failed)
+}
+
+/// Returns true if a number is known and above 0.
+fn is_above_0(count: Option<u64>) -> bool {
+    match count {
+        Some(count) => count > 0,
+        None => false,
+    }
 }

@@ -3,6 +3,7 @@
 
 use crate::events::event::{TestDetails, TestResult};
 use crate::notes::note::{Disagreement, Note};
+use crate::run::disagreements::push_disagreement;
 use crate::run::error::{RunError, one_more};
 use crate::run::run::TestRun;
 use crate::run::running::RunningTest;
@@ -45,7 +46,7 @@ impl TestRun {
     /// outside of a suite.
     fn hear(&mut self, number: Option<usize>) {
         let place = self.others.event_place();
-        match self.suite_of_number(number) {
+        match self.suites.place_of_number(number) {
             Some(at) => self.suites.list[at].last_event = place,
             None => self.outside.last_event = place,
         }
@@ -58,7 +59,10 @@ impl TestRun {
 
     /// Returns true if a test with this time is slow.
     fn is_long(&self, time: Option<u64>) -> bool {
-        time.is_some_and(|time| self.slow <= time)
+        match time {
+            Some(time) => self.slow <= time,
+            None => false,
+        }
     }
 
     /// Returns the position of the open suite that a starting test with this name belongs to, or `None` if no
@@ -68,13 +72,14 @@ impl TestRun {
             return Some(0);
         }
         let named = match name.split_once('$') {
-            Some((key, _)) => self.open_suite(Some(key)),
+            Some((key, _)) => self.suites.place_of_key(Some(key)),
             None => None,
         };
         if named.is_some() {
             return named;
         }
-        self.open_suite(None)
+        self.suites
+            .place_of_key(None)
             .or(self.suites.list.len().checked_sub(1))
     }
 
@@ -118,7 +123,7 @@ impl TestRun {
     ) -> Result<(), RunError> {
         let order = test.order;
         let slow = self.is_slow(&test, details.time);
-        let place = self.suite_of_number(test.suite);
+        let place = self.suites.place_of_number(test.suite);
         let over = OverTest {
             name: test.name,
             attempts,
@@ -143,11 +148,6 @@ impl TestRun {
         }
     }
 
-    /// Returns the position of the open suite with a number.
-    fn suite_of_number(&self, number: Option<usize>) -> Option<usize> {
-        self.suites.place_of_number(number)
-    }
-
     /// Takes the end of a test that is not running. The test is counted unless it passed. The end is a
     /// disagreement unless the test was ignored.
     fn on_stray_end(
@@ -161,10 +161,8 @@ impl TestRun {
             self.count_stray(name, end, details, notes)?;
         }
         if end != TestResult::Ignored {
-            notes.push(Note::Disagreement(Disagreement::StrayEnd {
-                name: String::from(name),
-                result: end,
-            }));
+            let name = String::from(name);
+            push_disagreement(Disagreement::StrayEnd { name, result: end }, notes);
         }
         Ok(())
     }

@@ -13,7 +13,7 @@ returns-clause-tells c =
     let some : 0 < length c.args.left.items = grind (arith, nat_tests, c.if-is_empty.ensures, c.is_empty.ensures, c.args.left.ok) in
     on_ok_weaker c.crash_all-2.result
     (crash-notes (others_view c.args.others.now) c.args.end (state_of c.args.self.now) (state_of c.crash_all.new.self) _ c.args.left.items _ _ _ _ _ _ _ some
-    (grind (arith, c.len.ensures, c.args.left.ok)) c.in_ok-later.ensures.items c.in_ok-later.ensures.tail c.in_ok-crash.ensures
+    (grind (arith, c.len-running.ensures, c.args.left.ok)) c.in_ok-later.ensures.items c.in_ok-later.ensures.tail c.in_ok-crash.ensures
     refl first.counts first.tells)
     c.crash_all-2.ensures.tells
 

@@ -16,5 +16,5 @@ returns c =
     (ap running_view c.in_ok-others.ensures.items ∙ sym (take-map running_test_view e.skipped tests))
     (ap running_view c.in_ok-others.ensures.tail ∙ sym (drop-map running_test_view e.skipped tests))
     (rw (length-map c.in_ok-others.others.items running_test_view) lost.left)
-    lost.counts c.in_ok-skip_all.ensures lost.tells flaky.counts flaky.tells c.in_ok-push_disagreement.ensures.tells c.or.ensures
+    lost.counts c.in_ok-skip_all.ensures lost.tells flaky.counts flaky.tells c.in_ok-push_last_line.ensures.tells c.or.ensures
     c.in_ok-push_numbers.ensures
