@@ -10,6 +10,8 @@ import crate_list
 
 TOP = os.path.dirname(os.path.dirname(os.path.realpath(__file__)))
 MEMORY_OF_A_PROOF = 4_000_000  # kB
+# The folder in a crate's out/ with the library that `tools/prove` built.
+PROVED = "proved"
 
 
 def kit():
@@ -32,7 +34,7 @@ def root_of(crate):
 
 def proved(crate):
     """Returns the file of a library of this repository that `tools/prove` built."""
-    return f"{TOP}/crates/{crate}/out/proved/{crate}.rlib"
+    return f"{TOP}/crates/{crate}/out/{PROVED}/{crate}.rlib"
 
 
 def kept(crate):

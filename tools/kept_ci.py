@@ -1,18 +1,23 @@
-"""Runs `rt ci` in the current folder, and keeps what it proves: `python3 tools/kept_ci.py FOLDER [--anew]`.
+"""Runs `rt ci` in the current folder, and keeps what it proves: `python3 tools/kept_ci.py ORIGIN [--anew]`.
 
-`rt ci` proves a crate from nothing and keeps no proof. Here each crate except programs has a new folder, FOLDER/CRATE,
-in which the prover keeps what it proves. So the crate is proved from nothing as well. A library is built with its
-proofs, and a verdict may say that it was reached over such a folder. What a run passed is kept for later runs of this
-tool, and not for a plain `rt ci`. Each crate is proved by one process, and as many crates at the same time as there are
-processors and memory. All else is as in `rt ci`: the words that it refuses, contracts that no call can meet, both
-compilers, and the runs of programs.
+The current folder is a copy of the repository ORIGIN without what was built there, and has this tool. `rt ci` proves a
+crate from nothing and keeps no proof, and tries each must-fail edit by a check of its own. Here each crate except
+programs has a new folder, out/incremental, in which the prover keeps what it proves. So the crate is proved from nothing
+as well. A library is built with its proofs, and a verdict may say that it was reached over such a folder. The edits of a
+crate are tried by tools/must-fail over that folder, while other crates are proved. What a run passed is kept for later
+runs of this tool, and not for a plain `rt ci`. Each crate is proved by one process, and as many crates at the same time
+as there are processors and memory. All else is as in `rt ci`: the words that it refuses, contracts that no call can
+meet, both compilers, and the runs of programs.
 """
 
+import hashlib
 import importlib.machinery
 import importlib.util
 import os
 import shutil
+import signal
 import sys
+from pathlib import Path
 
 import compiler
 
@@ -21,10 +26,10 @@ KEPT = " incremental=trusted"
 
 
 def loaded(path):
-    """Returns the command `rt` as a module. Nothing is written beside it."""
+    """Returns a command as a module. Nothing is written beside it."""
     sys.dont_write_bytecode = True
-    loader = importlib.machinery.SourceFileLoader("rt", path)
-    module = importlib.util.module_from_spec(importlib.util.spec_from_loader("rt", loader))
+    loader = importlib.machinery.SourceFileLoader(os.path.basename(path).replace("-", "_"), path)
+    module = importlib.util.module_from_spec(importlib.util.spec_from_loader(loader.name, loader))
     loader.exec_module(module)
     return module
 
@@ -40,12 +45,41 @@ class Verdict:
         return self.whole.search(printed.replace(KEPT, ""))
 
 
-def main(folder, *words):
+class Edits:
+    """The must-fail edits of a crate, and what became of them."""
+
+    def __init__(self, rt, must_fail, kept, crate, names):
+        self.rt, self.must_fail, self.kept, self.crate, self.names = rt, must_fail, kept, crate, names
+        self.earlier, self.results = {}, {}
+
+    def name_of(self, name):
+        """Returns the name under which the result of an edit is kept."""
+        made_from = self.kept.key(self.crate) + hashlib.sha256(Path(self.must_fail.__file__).read_bytes()).hexdigest()
+        return self.kept.of_edit(f"{self.crate.folder}/must-fail/{name}", made_from)
+
+    def try_all(self, origin):
+        """Tries the edits that no earlier run has tried."""
+        found = {name: self.kept.tried(self.name_of(name)) for name in self.names}
+        self.earlier = {name: result for name, result in found.items() if result}
+        left = [name for name in self.names if name not in self.earlier]
+        kept = compiler.kept(self.crate.name)
+        if left and not os.path.isdir(kept) and os.path.isdir(f"{origin}/crates/{self.crate.name}/out/incremental"):
+            # An earlier run has proved the crate, and the prover takes what is still so.
+            shutil.copytree(f"{origin}/crates/{self.crate.name}/out/incremental", kept)
+        self.results = dict(self.earlier)
+        for name, is_refused, line in self.must_fail.results_of(self.crate.name, left):
+            self.results[name] = (self.rt.REFUSED if is_refused else self.rt.MISSED, line)
+            if is_refused and self.kept.is_untouched(self.crate):
+                self.kept.keep_tried(self.name_of(name), *self.results[name])
+
+
+def main(origin, *words):
     """Runs `rt ci` and returns its exit status."""
     # By its own estimate of memory, `rt` leaves processors idle, or gives several to one crate. Each process of a crate
     # reads all libraries, which takes more processor time in all.
     os.environ.setdefault("RT_JOBS", str(compiler.lanes()))
-    rt = loaded(f"{compiler.kit()}/bin/rt")
+    compiler.PROVED = "rlib"
+    rt, must_fail = loaded(f"{compiler.kit()}/bin/rt"), loaded(f"{compiler.TOP}/tools/must-fail")
     prove, own_sum = rt.Crate.prove, rt.own_sum
     rt.rtlib.VERDICT = Verdict(rt.rtlib.VERDICT)
     # A plain `rt ci` takes no library that was built here, and none that it built is taken here.
@@ -55,12 +89,30 @@ def main(folder, *words):
         if crate.is_program:
             return prove(crate, *commands)
         # A check that was killed is made once more.
-        shutil.rmtree(f"{folder}/{crate.name}", ignore_errors=True)
+        shutil.rmtree(compiler.kept(crate.name), ignore_errors=True)
         # A library that holds only its statements cannot be built over such a folder.
         plain = [[word for word in command if word != "--statements"] for command in commands]
-        return prove(crate, *([*command, "--incremental", f"{folder}/{crate.name}"] for command in plain))
+        return prove(crate, *([*command, "--incremental", compiler.kept(crate.name)] for command in plain))
 
-    rt.Crate.prove = prove_and_keep
+    def add_edits(tasks, crate, paths, _first, waits, is_well, kept):
+        edits = Edits(rt, must_fail, kept, crate, [os.path.basename(path) for path in paths])
+
+        def try_all(given, _jobs):
+            if paths and is_well(given):
+                edits.try_all(origin)
+
+        # `rt` begins such a task when no proof waits for a processor.
+        tasks[crate.name, "edits"] = (waits, 0, rt.OVER * rt.need(crate), try_all)
+        return lambda _given: [edits.results[name] for name in edits.names], lambda: edits.earlier
+
+    def end(number, _frame):
+        must_fail.interrupt(number, None)
+        signal.signal(number, signal.SIG_DFL)
+        os.kill(os.getpid(), number)
+
+    for number in (signal.SIGINT, signal.SIGTERM, signal.SIGHUP):
+        signal.signal(number, end)
+    rt.Crate.prove, rt.add_edits = prove_and_keep, add_edits
     return rt.main(["ci", *words])
 
 

@@ -10,7 +10,7 @@ from .page import Page
 
 SHORTEST, LONGEST = 4, 15
 # The folders of the proved sources, each with the file that names their modules.
-PROVED = {"uses/src": "uses/src/lib.rt", "uses/src/report": "uses/src/report.rt"}
+PROVED = {"uses/src": "uses/src/lib.rt", "report_uses/src": "report_uses/src/lib.rt"}
 
 
 def proved_sources(top):

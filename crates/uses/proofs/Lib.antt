@@ -1,4 +1,3 @@
 pub mod DisplayerLemmas
-pub mod EndOfLines
 pub mod Lists
 pub mod RunnerLemmas

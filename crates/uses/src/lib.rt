@@ -3,7 +3,7 @@
 //! No program runs them. The example in the page CALLING.md of a library is in the file
 //! `of_LIBRARY.rt`. Most examples in the comments at the head of a library's `src/lib.rt` are from
 //! these files, and `first_pages.rt` has those that no other file has. The examples of the report's
-//! libraries are in the module [`report`].
+//! libraries are in the crate `report_uses`.
 #![tactic(auto)]
 
 pub mod displayer;
@@ -15,5 +15,4 @@ pub mod of_program_io;
 pub mod of_run_digest_engine;
 pub mod of_run_events;
 pub mod recorder;
-pub mod report;
 pub mod runner;

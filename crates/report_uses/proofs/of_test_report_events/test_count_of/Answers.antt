@@ -2,7 +2,7 @@ use Rattle.std.proofs.Common.{◌++◌, ◌∷◌, option_map, option_to_list, s
 use Rattle.test_report_events.specs.Content.{before_of, damage_of}
 use Rattle.test_report_events.specs.Event.{text_of_key}
 use Rattle.test_report_events.specs.Line.{LineSays}
-use Rattle.uses.proofs.report.of_test_report_events.test_count_of.Goals as goal
+use Rattle.report_uses.proofs.of_test_report_events.test_count_of.Goals as goal
 
 pub returns-in-SuiteStarted : goal.returns-in-SuiteStarted
 returns-in-SuiteStarted c = record {

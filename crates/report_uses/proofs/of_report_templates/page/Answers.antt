@@ -3,7 +3,7 @@ use Rattle.std.specs.Option.{option_map}
 use Rattle.report_templates.specs.Laws.{IsOneDocument}
 use Rattle.report_templates.specs.Sound.{page_parts}
 use Rattle.template.specs.Template.{parts_text, parts_view, values_view}
-use Rattle.uses.proofs.report.of_report_templates.page.Goals as goal
+use Rattle.report_uses.proofs.of_report_templates.page.Goals as goal
 
 pub returns-in_default-clause-is_some : goal.returns-in_default-clause-is_some
 returns-in_default-clause-is_some c =

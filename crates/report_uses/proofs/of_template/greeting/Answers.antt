@@ -14,7 +14,7 @@ use Rattle.template.specs.Shown.{shown}
 use Rattle.template.specs.Template.{HolePart, NoParts, NoValues, OnePart, OneValue, Parts, TextPart, TextValue, Values, parts_text, parts_view, value_view, values_of}
 use Rattle.template.specs.Tree.{ElementTree, NoTrees, OneTree, TextTree, TreeView}
 use Rattle.template.specs.declared.hole.Hole.TheVariants as hole
-use Rattle.uses.proofs.report.of_template.greeting.Goals as goal
+use Rattle.report_uses.proofs.of_template.greeting.Goals as goal
 
 -- the parts of the template, and its values
 abbrev page : Parts

@@ -3,8 +3,8 @@ use Rattle.std.specs.List.{flat_map}
 use Rattle.test_report_run_notes.specs.declared.note.RunEnd.{RunEnd}
 use Rattle.test_report_run.specs.FileEnd.{after_file, end_of}
 use Rattle.test_report_run.specs.Run.{run_settings}
-use Rattle.uses.proofs.EndOfLines.{run-more, run-of-all, status-is}
-use Rattle.uses.proofs.report.of_test_report_laws.succeeds_in_order.Goals as goal
+use Rattle.report_uses.proofs.EndOfLines.{run-more, run-of-all, status-is}
+use Rattle.report_uses.proofs.of_test_report_laws.succeeds_in_order.Goals as goal
 
 pub loop-bytes-preserved : goal.loop-bytes-preserved
 loop-bytes-preserved c =

@@ -1,7 +1,7 @@
 use Rattle.std.proofs.Common.{◌∙◌, ap}
 use Rattle.test_report_run.specs.FileEnd.{after_file, end_of}
-use Rattle.uses.proofs.EndOfLines.{run-more, run-of-all}
-use Rattle.uses.proofs.report.of_test_report_run.end_of_lines.Goals as goal
+use Rattle.report_uses.proofs.EndOfLines.{run-more, run-of-all}
+use Rattle.report_uses.proofs.of_test_report_run.end_of_lines.Goals as goal
 
 pub loop-bytes-preserved : goal.loop-bytes-preserved
 loop-bytes-preserved c =
