@@ -179,17 +179,18 @@ def counts_table(items):
 
 
 def items_table(names, items):
-    """Returns the table of the items of some types, and of functions and constants without a type."""
-    lines = ["| item | " + " | ".join(VERDICTS) + " |", "|---" * (len(VERDICTS) + 1) + "|"]
+    """Returns the table of the types, and of the functions and constants without a type, that are not all the same."""
+    lines = ["| item | the same | what differs |", "|---|---|---|"]
     for name in names:
         own = [item for item in items if name == (item.owner or item.name)]
-        cells = [_same(own), *(_listed(own, verdict) for verdict in VERDICTS[1:])]
-        lines.append(f"| `{name}` | " + " | ".join(cells) + " |")
+        others = ". ".join(filter(None, (_listed(own, verdict) for verdict in VERDICTS[1:])))
+        if others:
+            lines.append(f"| `{name}` | {_same(own)} | {others} |")
     return "\n".join(lines)
 
 
 def _same(items):
-    """Returns the cell of what is the same: numbers of variants and fields, and names of the rest."""
+    """Returns the cell of what is the same: the numbers of variants and fields."""
     parts = []
     for kind in ("variants", "fields"):
         of_kind = [item for item in items if item.kind == kind]
@@ -197,15 +198,11 @@ def _same(items):
         if same:
             total = "" if same == len(of_kind) else f" of {len(of_kind)}"
             parts.append(f"{same} {kind if same > 1 else kind[:-1]}{total}")
-    for kind in ("methods", "functions", "constants", "attributes", "implementations of traits"):
-        names = [f"`{item.name}`" for item in items if item.kind == kind and item.verdict == "the same"]
-        if names:
-            parts.append(", ".join(names))
-    return "; ".join(parts)
+    return ", ".join(parts)
 
 
 def _listed(items, verdict):
-    """Returns the cell of a verdict: the items by their notes."""
+    """Returns what the cell of the rest has of a verdict: the items by their notes."""
     notes = {}
     for item in items:
         if item.verdict == verdict:
@@ -215,14 +212,13 @@ def _listed(items, verdict):
         if verdict == "another type":
             own = STAND_INS[note][0]
             note = f"`{own}`" if own == note else f"`{own}`, there `{note}`"
+        elif verdict == "not here":
+            note = f"not here; {note}" if note else "not here"
         cells.append(", ".join(names) + (f": {note}" if note else ""))
     return ". ".join(cells)
 
 
-def stand_ins_table(items):
+def stand_ins_table():
     """Returns the table of the types that replace nextest's."""
-    lines = ["| nextest's type | the type here | items with it |", "|---|---|---|"]
-    for there, (here, what) in STAND_INS.items():
-        number = sum(item.verdict == "another type" and item.note == there for item in items)
-        lines.append(f"| `{there}` | `{here}`: {what} | {number} |")
-    return "\n".join(lines)
+    rows = [f"| `{there}` | `{here}`: {what} |" for there, (here, what) in STAND_INS.items()]
+    return "\n".join(["| nextest's type | the type here |", "|---|---|", *rows])

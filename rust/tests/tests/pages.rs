@@ -3,7 +3,6 @@
 use deodarsieve_tests::named::{COUNTERS, reasons, word_of};
 
 const CLI_README: &str = include_str!("../../cli/README.md");
-const DIFFERENCES: &str = include_str!("../../../docs/DIFFERENCES.md");
 const GLOSSARY: &str = include_str!("../../../docs/GLOSSARY.md");
 const RUN_DIGEST: &str = include_str!("../../../docs/RUN-DIGEST.md");
 const SEMVER: &str = include_str!("../../deodarsieve/SEMVER.md");
@@ -26,8 +25,8 @@ fn count_in_nextest(row: &str, word: &str) -> usize {
     number.parse().expect("it is a number")
 }
 
-/// Asserts that the table of nextest's items and the page of differences name these parts, and that
-/// nextest's type has all others.
+/// Asserts that a row of the table of nextest's items names these parts, and that nextest's type has all
+/// others.
 fn assert_that_own_parts_are_named(row: &str, word: &str, all: usize, own: &[String]) {
     assert_eq!(
         count_in_nextest(row, word) + own.len(),
@@ -36,10 +35,6 @@ fn assert_that_own_parts_are_named(row: &str, word: &str, all: usize, own: &[Str
     );
     for name in own {
         assert!(row.contains(&format!("`{name}`")), "UPSTREAM.md: {name}");
-        assert!(
-            DIFFERENCES.contains(&format!("`{name}`")),
-            "DIFFERENCES.md: {name}"
-        );
     }
 }
 
@@ -59,7 +54,7 @@ fn own_reasons_are_named() {
     let is_own = |name: &&String| SEMVER.contains(&format!("`CancelReason::{name}`"));
     let own: Vec<_> = names.iter().filter(is_own).cloned().collect();
     let row = row(UPSTREAM, "`CancelReason`");
-    assert_that_own_parts_are_named(row, "variants;", names.len(), &own);
+    assert_that_own_parts_are_named(row, "variants", names.len(), &own);
 }
 
 #[test]
@@ -73,9 +68,11 @@ fn the_glossary_has_the_least_and_the_most_severe_reason() {
 #[test]
 fn own_counters_are_named() {
     let row = row(UPSTREAM, "`RunStats`");
-    let (_, of_this_crate) = row.split_once(" |  | ").expect("a column of differences");
+    let (_, of_this_crate) = row
+        .split_once("fields | ")
+        .expect("a column of differences");
     let is_own = |name: &&String| of_this_crate.contains(&format!("`{name}`"));
     let own: Vec<_> = COUNTERS.iter().filter(is_own).cloned().collect();
     // The reason to cancel is a field too.
-    assert_that_own_parts_are_named(row, "fields;", COUNTERS.len() + 1, &own);
+    assert_that_own_parts_are_named(row, "fields", COUNTERS.len() + 1, &own);
 }
