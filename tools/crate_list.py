@@ -46,20 +46,5 @@ def libraries():
     return re.findall(r"^(\w+):", group[1], re.M)
 
 
-def laws_of(crate, module):
-    """Returns the paths of the files with the laws that a module of a crate has.
-
-    The laws of a module `laws` are in specs/Laws.antt. All modules of a crate `.._laws` have laws, in the
-    files of specs/ that their contracts name.
-    """
-    folder = FILE.parent / "crates" / crate
-    if crate.endswith("_laws"):
-        text = (folder / "src" / f"{module}.rt").read_text(encoding="utf-8")
-        names = re.findall(rf"^ghost use Rattle\.{crate}\.specs\.(\w+)\.", text, re.M)
-    else:
-        names = ["Laws"] if module == "laws" else []
-    return [path for path in (folder / "specs" / f"{name}.antt" for name in names) if path.exists()]
-
-
 if __name__ == "__main__":
     print("\n".join(used()))

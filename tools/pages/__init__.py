@@ -1,1 +1,1 @@
-"""The modules of `tools/documents` and `tools/promises`: they read pages and compare them with the sources."""
+"""The modules of `tools/documents`: they read pages and compare them with the sources."""

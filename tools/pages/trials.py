@@ -7,7 +7,9 @@ comparisons are tried on the texts below.
 import sys
 from pathlib import Path
 
-from . import callers, commands, edits, excerpts, first_pages, lengths, links, numbers, promises
+from contract_items import items_in
+
+from . import callers, commands, edits, excerpts, first_pages, lengths, links, numbers, theorems
 from .page import Page
 
 HERE = Path(__file__).resolve().parent
@@ -24,25 +26,79 @@ EDITS = {
     "Count.wrong.edit": False,
     "wrong.edit": False,
 }
-CONTRACTS = """
-fn Count::of() -> Count
-  ensures counts { a }
-  ensures { b }
-impl fmt::Display for Count
-  ghost output = { c }
-impl Model for Count
-  ghost view = { d }
+# A source, and its public items with their clauses.
+SOURCE = """
+/// It counts.
+pub struct Count(u8);
+impl Count {
+    pub fn of(
+        n: u8,
+    ) -> Self
+        requires { a }
+        // It counts.
+        ensures counts { b
+            (c {}) }
+
+        ensures { d }
+    {
+        Count(n)
+    }
+    fn own()
+        ensures hidden { e }
+    {}
+}
+impl fmt::Display for Count {
+    ghost output = { λ c. f };
+
+    fn fmt() {
+    }
+}
+pub trait Counts<T> {
+    fn count(&self) -> u8
+        ensures { g };
+}
+impl<T> Counts<T> for &Count {
+    fn count(&self) -> u8
+        ensures { g }
+        ensures more { h }
+    {
+        self.0
+    }
+}
+impl Own {
+    pub fn of()
+        ensures { i }
+    {}
+}
+pub fn free() -> u8 {
+    1
+}
+fn own()
+    ensures { j }
+{}
 """
-ROW = "| It counts | `Count::of` | `counts`, `·` |\n"
-SHOWN = "| It is shown | `Display` of `Count` | `output` |\n"
-PROMISES = (
-    ("", ROW + SHOWN),
-    ("a: Count::of has no promise by its clause ·", ROW.replace(", `·`", "") + SHOWN),
-    ("a: Display of Count has no promise by its clause output", ROW),
-    ("a: Count::of has no clause sums", ROW.replace("`·`", "`·`, `sums`") + SHOWN),
-    ("a: Count::off has no clause counts", ROW + SHOWN + ROW.replace("of`", "off`")),
-    ("run_events: Count::of has no clause counts", f"## Another\n{ROW}## A (`a`)\n{ROW}{SHOWN}"),
-    ("a row that is not read", ROW + SHOWN.replace("`Count`", "each")),
+ITEMS = {
+    "Count": [],
+    "Count::of": ["counts", "·"],
+    "Display of Count": ["output"],
+    "Counts": [],
+    "Counts::count": ["·"],
+    "Count::count": ["·", "more"],
+    "free": [],
+}
+CONTRACTS = {"a.rt": {"Count::of": {"counts", "·"}, "Display of Count": {"output"}}}
+COUNTED, SHOWN = "[`Count::of`](a.rt)", "[`Display of Count`](a.rt)"
+# What is in the second cell of a row, each with the start of its fault.
+THEOREMS = (
+    ("", f"{COUNTED} `counts`, `·`; {SHOWN} `output`"),
+    ("", f"{COUNTED}, {COUNTED} `counts`"),
+    ("there is no file b.rt", f"{COUNTED} `counts`; [`Count::of`](b.rt) `counts`"),
+    ("a.rt has no call Count::off", "[`Count::off`](a.rt) `counts`"),
+    ("Count::of has no clause sums", f"{COUNTED} `counts`, `sums`"),
+    ("Display of Count has no clause counts", f"{COUNTED}, {SHOWN} `counts`"),
+    ("calls and clauses that are not read", "`Count::of` `counts`"),
+    ("calls and clauses that are not read", COUNTED),
+    ("it has no row", ""),
 )
 PROVED = ["fn one() {\n    let a = 1;\n    let b = 2;\n    a + b\n}\n"]
 # What the comment at the head of a source says, each with the start of its fault.
@@ -110,10 +166,16 @@ def missed(what, trials, faults_of):
     return failures
 
 
-def promise_faults(rows):
-    """Returns the faults of rows of promises."""
-    crates = {"run_events": promises.Contracts(), "a": promises.contracts_of_page(CONTRACTS)}
-    return promises.faults(rows if rows.startswith("## ") else f"## Calls (`a`)\n{rows}", crates)
+def item_failures():
+    """Returns a line if the items of the source are not read as they must be."""
+    found = {item.name: item.clauses for item in items_in(Path("a.rt"), SOURCE, {"Count", "Counts"})}
+    return [] if found == ITEMS else [f"the items of a source are read as {found}"]
+
+
+def theorem_faults(cell):
+    """Returns the faults of a page of theorems whose only row has this second cell, or that has no row."""
+    row = f"| It counts | {cell} |\n" if cell else ""
+    return theorems.row_faults(f"{theorems.HEAD}\n|---|---|\n{row}", CONTRACTS.get)[1]
 
 
 def first_page_faults(shown):
@@ -133,11 +195,12 @@ def run(top):
     failures += misjudged("the edit", EDITS, lambda name: not edits.faults([name], SOURCES))
     failures += misjudged("a caller", CALLERS, lambda pair: callers.is_caller(*pair))
     failures += misjudged("a line", LINES, lambda text: not lengths.faults(text)[1])
-    failures += missed("a page of promises", PROMISES, promise_faults)
+    failures += missed("a row of theorems", THEOREMS, theorem_faults)
+    failures += item_failures()
     failures += missed("a first page", FIRST_PAGES, first_page_faults)
     failures += missed("a page without an excerpt", PRESENCE, presence_faults)
     for line in failures:
         print(f"documents: {line}", file=sys.stderr)
-    count += sum(map(len, (EDITS, CALLERS, LINES, PROMISES, FIRST_PAGES, PRESENCE)))
+    count += sum(map(len, (EDITS, CALLERS, LINES, THEOREMS, FIRST_PAGES, PRESENCE))) + 1
     print(f"documents: {count} trials, {len(failures)} failed")
     return 1 if failures else 0
