@@ -1,4 +1,4 @@
-//! Makes calls that allocate, and prints the outcome of each. `./allocation-failures` runs this program
+//! Makes calls that allocate, and prints the outcome of each. `tools/allocation-failures` runs this program
 //! with a small library loaded before it that makes one allocation fail.
 //!
 //! `callers NAME` makes one call, and `callers all` makes each once. A call allocates its arguments
