@@ -1,6 +1,6 @@
 """The crates of this repository and the libraries that they use, as crates.txt lists them.
 
-`python3 tools/crate_list.py` prints the names of the crates.
+`python3 tools/crate_list.py` prints a line for each crate: its name, and those of the crates below it.
 """
 
 import re
@@ -47,4 +47,5 @@ def libraries():
 
 
 if __name__ == "__main__":
-    print("\n".join(used()))
+    for name in used():
+        print(*below(name))
