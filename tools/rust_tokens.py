@@ -1,4 +1,4 @@
-"""The tokens of Rust and Rattle, for the eraser and for the tools that read nextest's files."""
+"""The tokens of Rust and Rattle, for the eraser and for `tools/upstream-tests`."""
 
 import re
 from dataclasses import dataclass

@@ -1,1 +1,1 @@
-"""The modules of `tools/upstream-tests` and `tools/upstream-items`, which read nextest's own files."""
+"""The modules of `tools/upstream-tests`, which reads nextest's own files."""
