@@ -1,33 +1,29 @@
-"""The commands that a page shows in blocks marked as tested.
+"""The commands of a page, and the numbers that commands print.
 
-A block `console tested` has lines `$ COMMAND`, each with what the command prints: its standard output, and
-then its standard error. A line `[...]` matches any number of lines. A block `sh tested` is a script that ends with
-status 0. Both run in the folder at the top of the repository, and find its programs on PATH.
+A block `console tested` has lines `$ COMMAND`, each with what the command prints. A line `[...]` matches any number of
+lines. A comment right after a number, `<!-- count: COMMAND -->`, has the command that prints it. In the page the number
+may have commas. With `about:` in place of `count:` it may differ by a twentieth. Commands run in the folder at the top
+of the repository, and find its programs on PATH.
 """
 
 import os
 import re
 import subprocess
 import tempfile
+from pathlib import Path
 
-from .excerpts import is_excerpt
-
-SECONDS = 600
-PROGRAMS = ("run-digest", "test-report")
 ANY_LINES = "[...]"
+NUMBER = re.compile(r"([\w.,]+)[*`]*<!-- (count|about): (.+?) -->")
+COMMENT = re.compile(r"<!-- *(?:count|about)\b")
+LOGIC = re.compile(r"\blogic ([0-9a-f]{16})\b")
 
 
-def is_known(block):
-    """Returns true if the words after a fence are those of a plain block, an excerpt or a tested block."""
-    is_tested = block.words in (["console", "tested"], ["sh", "tested"])
-    return len(block.words) < 2 or is_tested or is_excerpt(block)
-
-
-def environment(top, room):
-    """Returns the environment of a command: the programs are first on its path, from a folder `room`."""
-    for program in PROGRAMS:
-        os.symlink(f"{top}/{program}", f"{room}/{program}")
-    return {**os.environ, "PATH": f"{room}{os.pathsep}{os.environ['PATH']}"}
+def run_shell(script, top):
+    """Returns the status of a script, which has ten minutes, and what it prints."""
+    how = {"stdin": subprocess.DEVNULL, "stdout": subprocess.PIPE, "stderr": subprocess.STDOUT, "check": False}
+    environment = {**os.environ, "PATH": f"{top}{os.pathsep}{os.environ['PATH']}"}
+    ran = subprocess.run(["timeout", "600", "bash", "-c", script], cwd=top, env=environment, **how)
+    return ran.returncode, ran.stdout.decode("utf-8", "replace")
 
 
 def steps(text):
@@ -38,8 +34,6 @@ def steps(text):
             found.append((line[2:], []))
         elif found:
             found[-1][1].append(line)
-        else:
-            return []
     return found
 
 
@@ -50,68 +44,60 @@ def is_printed(wanted, printed):
     return re.fullmatch("".join(lines), text) is not None
 
 
-def run_shell(script, top, *options):
-    """Runs a script in a shell, and returns its status, or None after ten minutes, and what it prints."""
-    how = {"stdin": subprocess.DEVNULL, "stdout": subprocess.PIPE, "stderr": subprocess.STDOUT}
-    how |= {"cwd": top, "encoding": "utf-8", "errors": "replace", "timeout": SECONDS, "check": False}
-    with tempfile.TemporaryDirectory() as room:
-        try:
-            ran = subprocess.run(["bash", *options, "-c", script], env=environment(top, room), **how)
-        except subprocess.TimeoutExpired:
-            return None, ""
-    return ran.returncode, ran.stdout
-
-
 def outputs(commands, top):
     """Runs commands one after another in one shell, and returns what each prints."""
     with tempfile.TemporaryDirectory() as room:
-        files = [(f"{room}/{at}.stdout", f"{room}/{at}.stderr") for at in range(len(commands))]
-        groups = [f"{{ {it}\n}} >{out} 2>{err}\n" for it, (out, err) in zip(commands, files)]
-        run_shell("".join(groups), top)
-        return ["".join(map(text_of, pair)) for pair in files]
+        files = [Path(room, str(at)) for at in range(len(commands))]
+        run_shell("".join(f"{{ {command}\n}} >{file} 2>&1\n" for command, file in zip(commands, files)), top)
+        return [file.read_text(encoding="utf-8", errors="replace") for file in files]
 
 
-def text_of(path):
-    """Returns the text of a file, or nothing if there is no such file."""
-    try:
-        with open(path, encoding="utf-8", errors="replace") as file:
-            return file.read()
-    except FileNotFoundError:
-        return ""
-
-
-def console_faults(block, top):
-    """Returns the number of commands of a console block, and its faults."""
-    shown = steps(block.text)
-    if not shown:
-        return 1, [f"line {block.line}: the block has no line that begins with `$ `"]
-    printed = outputs([command for command, _ in shown], top)
-    faults = [
-        f"line {block.line}: `{command}` prints\n{text}"
-        for (command, wanted), text in zip(shown, printed)
-        if not is_printed(wanted, text)
-    ]
-    return len(shown), faults
-
-
-def script_faults(block, top):
-    """Returns the fault of a script of a page, if it has one."""
-    status, printed = run_shell(block.text, top, "-euo", "pipefail")
-    return [] if status == 0 else [f"line {block.line}: the script ends with status {status}\n{printed}"]
-
-
-def faults(page, top):
+def block_faults(page, top):
     """Runs the tested blocks of a page. Returns how many commands there are, and the faults."""
     count, found = 0, []
     for block in page.blocks:
         if block.words == ["console", "tested"]:
-            commands, more = console_faults(block, top)
-        elif block.words == ["sh", "tested"]:
-            commands, more = 1, script_faults(block, top)
-        elif not is_known(block):
-            words = " ".join(block.words)
-            commands, more = 1, [f"line {block.line}: a block has the words `{words}`, which nothing reads"]
-        else:
-            continue
-        count, found = count + commands, found + more
+            shown = steps(block.text)
+            printed = outputs([command for command, _ in shown], top)
+            count += max(1, len(shown))
+            found += [] if shown else [f"line {block.line}: the block has no line that begins with `$ `"]
+            found += [
+                f"line {block.line}: `{command}` prints\n{text}"
+                for (command, wanted), text in zip(shown, printed)
+                if not is_printed(wanted, text)
+            ]
+        elif len(block.words) > 1 and not block.is_excerpt():
+            count += 1
+            found.append(f"line {block.line}: nothing reads the words `{' '.join(block.words)}` of a block")
     return count, found
+
+
+def is_number(written, printed, kind):
+    """Returns true if a number of a page is the one that a command prints, or about so."""
+    value = written.replace(",", "")
+    if kind == "count":
+        return value == printed
+    return value.isdigit() and printed.isdigit() and abs(int(printed) - int(value)) <= int(printed) // 20
+
+
+def number_faults(page, top):
+    """Returns how many numbers of a page have a command, and the faults."""
+    found, numbers, comments = [], list(NUMBER.finditer(page.prose)), len(COMMENT.findall(page.prose))
+    for number in numbers:
+        status, printed = run_shell(f"set -euo pipefail\n{number[3]}", top)
+        if status or not is_number(number[1], printed.strip(), number[2]):
+            at = page.line_of(number.start())
+            found.append(f"line {at}: the number {number[1]} is {printed.strip()} by `{number[3]}`, status {status}")
+    if comments != len(numbers):
+        found.append(f"{comments - len(numbers)} comments are not of the form `NUMBER<!-- count: COMMAND -->`")
+    return comments, found
+
+
+def toolchain_faults(page, toolchain):
+    """Returns how often a page names the logic of the toolchain, and the faults: its number is another one."""
+    used, named = LOGIC.search(toolchain), list(LOGIC.finditer(page.prose))
+    return len(named), [
+        f"line {page.line_of(logic.start())}: the toolchain is not `{logic[0]}`, but `{toolchain}`"
+        for logic in named
+        if used is None or logic[1] != used[1]
+    ]

@@ -3,25 +3,39 @@
 import re
 from pathlib import Path
 
-FENCE = re.compile(r"( *)(`{3,})([^`]*)$")
-LINK = re.compile(r"\[[^\[\]]*\]\(([^()\s]+)(?: \"[^\"]*\")?\)")
-REFERENCE = re.compile(r"^\[[^\]]+\]: (\S+)", re.M)
+FENCE = re.compile(r" *(`{3,})([^`]*)$")
+LINK = re.compile(r"\[[^\[\]]*\]\(([^()\s]+)(?: \"[^\"]*\")?\)|^\[[^\]]+\]: (\S+)", re.M)
 HEADING = re.compile(r"^#{1,6} (.+?)(?: #+)?$", re.M)
 
 
 class Block:
     """A fenced block: the number of its first line, the words after its fence, and its text."""
 
-    def __init__(self, line, words, text):
-        self.line, self.words, self.text = line, words, text
+    def __init__(self, line, words):
+        self.line, self.words, self.text = line, words, ""
+
+    def is_excerpt(self):
+        """Returns true if the second word after the fence is the path of a file."""
+        return len(self.words) == 2 and "/" in self.words[1]
 
 
 class Page:
-    """A page of Markdown. `name` is its path from the top of the repository."""
+    """A page of Markdown. `name` is its path from the top of the repository. Its prose has empty lines for blocks."""
 
     def __init__(self, name, text):
         self.name, self.text = name, text
-        self.blocks, self.prose = split(text)
+        self.blocks, prose, fence = [], [], ""
+        for number, line in enumerate(text.split("\n"), 1):
+            head = FENCE.match(line)
+            if not fence and head:
+                self.blocks.append(Block(number + 1, head[2].split()))
+                fence, line = head[1], ""
+            elif fence:
+                fence = "" if line.strip() == fence else fence
+                self.blocks[-1].text += f"{line}\n" if fence else ""
+                line = ""
+            prose.append(line)
+        self.prose = "\n".join(prose)
 
     def line_of(self, at):
         """Returns the number of the line in which a place of the prose is."""
@@ -30,9 +44,8 @@ class Page:
     def links(self):
         """Yields the line and the target of each link of the prose."""
         prose = re.sub(r"(`+).*?\1", "code", self.prose)
-        for form in (LINK, REFERENCE):
-            for link in form.finditer(prose):
-                yield prose.count("\n", 0, link.start()) + 1, link[1]
+        for link in LINK.finditer(prose):
+            yield prose.count("\n", 0, link.start()) + 1, link[1] or link[2]
 
     def anchors(self):
         """Returns the anchors of the headings, as GitHub names them."""
@@ -44,26 +57,6 @@ class Page:
             if found[anchor]:
                 found[f"{anchor}-{found[anchor]}"] = 0
         return set(found)
-
-
-def split(text):
-    """Returns the fenced blocks of a text, and its prose: the text with empty lines in the place of the blocks."""
-    blocks, prose, opened, fence = [], [], None, ""
-    for number, line in enumerate(text.split("\n"), 1):
-        head = FENCE.match(line)
-        if opened is None and head:
-            opened, fence = Block(number + 1, head[3].split(), []), head[2]
-        elif opened is not None and line.strip() == fence:
-            opened.text = "".join(f"{it}\n" for it in opened.text)
-            blocks.append(opened)
-            opened = None
-        elif opened is not None:
-            opened.text.append(line)
-        else:
-            prose.append(line)
-            continue
-        prose.append("")
-    return blocks, "\n".join(prose)
 
 
 def pages_of(top):

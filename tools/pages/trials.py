@@ -1,206 +1,98 @@
-"""Tests of the comparisons: what each must refuse, and a page that they must accept.
-
-`refusals.txt` has pages: a line `=== PART OF THE FAULT`, and the page. `accepted.md` has no fault. The other
-comparisons are tried on the texts below.
-"""
+"""Faults that `tools/documents` must find, each in a page or a source that has no other one."""
 
 import sys
-from pathlib import Path
 
-from contract_items import items_in
+from . import sources
 
-from . import callers, commands, edits, excerpts, first_pages, lengths, links, numbers, theorems
-from .page import Page
-
-HERE = Path(__file__).resolve().parent
 TOOLCHAIN = "kit logic aaaaaaaaaaaaaaaa"
-SOURCES = [
-    "pub struct Count;\nimpl Count {\n    pub fn of() {\n    }\n    fn own() {\n    }\n}\n",
-    "pub fn free() {}\nfn own() {}\n",
-]
-EDITS = {
-    "Count.of.wrong.edit": True,
-    "free.wrong.edit": True,
-    "Count.own.wrong.edit": False,
-    "own.wrong.edit": False,
-    "Count.wrong.edit": False,
-    "wrong.edit": False,
-}
-# A source, and its public items with their clauses.
-SOURCE = """
-/// It counts.
-pub struct Count(u8);
-impl Count {
-    pub fn of(
-        n: u8,
-    ) -> Self
-        requires { a }
-        // It counts.
-        ensures counts { b
-            (c {}) }
-
-        ensures { d }
-    {
-        Count(n)
-    }
-    fn own()
-        ensures hidden { e }
-    {}
-}
-impl fmt::Display for Count {
-    ghost output = { λ c. f };
-
-    fn fmt() {
-    }
-}
-pub trait Counts<T> {
-    fn count(&self) -> u8
-        ensures { g };
-}
-impl<T> Counts<T> for &Count {
-    fn count(&self) -> u8
-        ensures { g }
-        ensures more { h }
-    {
-        self.0
-    }
-}
-impl Own {
-    pub fn of()
-        ensures { i }
-    {}
-}
-pub fn free() -> u8 {
-    1
-}
-fn own()
-    ensures { j }
-{}
-"""
-ITEMS = {
-    "Count": [],
-    "Count::of": ["counts", "·"],
-    "Display of Count": ["output"],
-    "Counts": [],
-    "Counts::count": ["·"],
-    "Count::count": ["·", "more"],
-    "free": [],
-}
-CONTRACTS = {"a.rt": {"Count::of": {"counts", "·"}, "Display of Count": {"output"}}}
-COUNTED, SHOWN = "[`Count::of`](a.rt)", "[`Display of Count`](a.rt)"
-# What is in the second cell of a row, each with the start of its fault.
-THEOREMS = (
-    ("", f"{COUNTED} `counts`, `·`; {SHOWN} `output`"),
-    ("", f"{COUNTED}, {COUNTED} `counts`"),
-    ("there is no file b.rt", f"{COUNTED} `counts`; [`Count::of`](b.rt) `counts`"),
-    ("a.rt has no call Count::off", "[`Count::off`](a.rt) `counts`"),
-    ("Count::of has no clause sums", f"{COUNTED} `counts`, `sums`"),
-    ("Display of Count has no clause counts", f"{COUNTED}, {SHOWN} `counts`"),
-    ("calls and clauses that are not read", "`Count::of` `counts`"),
-    ("calls and clauses that are not read", COUNTED),
-    ("it has no row", ""),
+THEOREMS = "docs/THEOREMS.md"
+RUN = "../crates/run_events_stats/src/stats/run.rt"
+# A part of the fault, and the page.
+PAGES = (
+    ("`echo one` prints\none", "```console tested\n$ echo one\ntwo\n```"),
+    ("` prints", "```console tested\n$ printf 'a\\nc\\n'\na\nb\n[...]\n```"),
+    ("`echo one` prints", "A line is missing.\n\n```console tested\n$ echo one\n```"),
+    ("` prints\ntwo", "```console tested\n$ true\n$ echo two >&2; false\n```"),
+    ("`echo $?` prints\n1", "```console tested\n$ false\n$ echo $?\n0\n```"),
+    ("the block has no line that begins with `$ `", "```console tested\none\n```"),
+    ("nothing reads the words `console test`", "```console test\n$ echo one\n```"),
+    ("nothing reads the words `sh cargo`", '```sh cargo\nexec cargo "$@"\n```'),
+    ("there is no file for the link docs/ABSENT.md", "See [the page](docs/ABSENT.md)."),
+    ("there is no file for the link ABSENT.md", "See [the page][absent].\n\n[absent]: ABSENT.md"),
+    ("there is no heading for the link README.md#absent", "See [`the` page](README.md#absent)."),
+    ("there is no heading for the link #other", "# One\n\nSee [below](#other), and [above](#one)."),
+    ("there is no heading for the link #one-1", "# One\n\nSee [the second](#one-1)."),
+    ("the link /README.md is not relative", "See [the page](/README.md)."),
+    ("the number 3 is 2 by `echo 2`", "There are 3<!-- count: echo 2 --> of them."),
+    ("the number 1,234 is 1235", "There are **1,234**<!-- count: echo 1235 --> of them."),
+    ("the number 1.95 is 1.96", "It needs Rust 1.95<!-- count: echo 1.96 -->."),
+    ("the number 94 is 100", "About 94<!-- about: echo 100 -->, and 95<!-- about: echo 100 -->."),
+    ("the number 106 is 100", "About 106<!-- about: echo 100 -->, and 105<!-- about: echo 100 -->."),
+    ("the number many is 2", "There are many<!-- about: echo 2 --> of them."),
+    ("by `echo 3; false`, status 1", "There are 3<!-- count: echo 3; false --> of them."),
+    ("status 1", "There are 3<!-- count: false | echo 3 --> of them."),
+    ("1 comments are not of the form", "There are 3<!-- count 3 --> of them."),
+    ("the toolchain is not `logic 0123456789abcdef`", "It is proved with `logic 0123456789abcdef`."),
+    ("the excerpt is not in tools/cargo", '```sh tools/cargo\nexec cargo  "$@"\n```'),
+    ("the excerpt is not in tools/absent", '```sh tools/absent\nexec cargo "$@"\n```'),
+)
+# The same for pages of which more is compared.
+NAMED_PAGES = (
+    ("its caller is not that in of_output_slice.rt", "crates/output_slice/CALLING.md", "```rust\nlet a = 1;\n```"),
+    ("its caller is not that in of_output_slice.rt", "crates/output_slice/CALLING.md", "It has none."),
+    ("it has no row", THEOREMS, sources.THEOREMS_HEAD),
+    ("run.rt has no call Stats::of_run", THEOREMS, f"| It counts | [`Stats::of_run`]({RUN}) `counts` |"),
+    ("RunStats::of_run has no clause sums", THEOREMS, f"| It counts | [`RunStats::of_run`]({RUN}) `counts`, `sums` |"),
+    ("calls and clauses that are not read", THEOREMS, "| It counts | `RunStats::of_run` `counts` |"),
+    ("calls and clauses that are not read", THEOREMS, f"| It counts | [`RunStats::of_run`]({RUN}) |"),
+    ("it has 111 lines", "README.md", "logic aaaaaaaaaaaaaaaa" + "\n" * 111),
+    ("it has 902 words", "README.md", "logic aaaaaaaaaaaaaaaa" + " word" * 900),
+    ("it does not name the logic", "README.md", "It names none."),
 )
 PROVED = ["fn one() {\n    let a = 1;\n    let b = 2;\n    a + b\n}\n"]
-# What the comment at the head of a source says, each with the start of its fault.
+# The fault, or nothing, and what the first page of a library shows.
 FIRST_PAGES = (
     ("", "```rust\nlet a = 1;\n    let b = 2;\na + b\n}\n```"),
     ("its example is not proved", "```rust\nlet a = 1;\na + b\nlet b = 2;\n}\n```"),
     ("its example is not proved", "```rust\nlet a = 1;\nlet b = 2;\na + c\n}\n```"),
-    ("its example has 3 lines", "```rust\nlet a = 1;\nlet b = 2;\na + b\n```"),
-    ("its example has 16 lines", "```rust\n" + "x;\n" * 16 + "```"),
+    ("its example is not proved", "```rust\na = 1;\nlet b = 2;\na + b\n}\n```"),
+    ("its example is too short or too long", "```rust\nlet a = 1;\nlet b = 2;\na + b\n```"),
     ("its first page has no example", "```text\nlet a = 1;\nlet b = 2;\na + b\n}\n```"),
 )
-PRESENCE = (("", "rust a/b.rs"), ("no page has an excerpt", "rust"))
-CALLER = "//! A caller.\n\nuse a::b;\n"
-CALLERS = {
-    ("use a::b;\n", CALLER): True,
-    ("use a::c;\n", CALLER): False,
-    (CALLER, CALLER): False,
-    ("", ""): False,
-}
-LINES = {
-    "x" * 160: True,
-    f"use {'x' * 160}": True,
-    f"pub use {'x' * 160}": True,
-    "x" * 161: False,
-    f"one\n{'≡' * 161}\ntwo": False,
-    f" use {'x' * 160}": False,
-}
-
-
-def page_faults(name, text, top):
-    """Returns the faults of a page."""
-    page = Page(name, text)
-    results = (it.faults(page, top) for it in (commands, excerpts, links, numbers))
-    found = [fault for _, faults in results for fault in faults]
-    return found + numbers.toolchain_faults(page, TOOLCHAIN)[1]
-
-
-def page_failures(top):
-    """Returns how many pages were tried, and a line for each on which the comparisons are wrong."""
-    entries = (HERE / "refusals.txt").read_text(encoding="utf-8").split("=== ")[1:]
-    failures = []
-    for entry in entries:
-        wanted, text = entry.split("\n", 1)
-        found = page_faults("refused.md", text, top)
-        if len(found) != 1 or wanted not in found[0]:
-            failures.append(f"not refused for `{wanted}`, but: {found}")
-    accepted = HERE / "accepted.md"
-    found = page_faults(str(accepted.relative_to(top)), accepted.read_text(encoding="utf-8"), top)
-    failures += [f"accepted.md: {fault}" for fault in found]
-    return len(entries) + 1, failures
-
-
-def misjudged(what, texts, is_accepted):
-    """Returns a line for each text that is not judged as a table says."""
-    return [f"{what} is judged wrongly: {text}" for text, is_right in texts.items() if is_accepted(text) != is_right]
-
-
-def missed(what, trials, faults_of):
-    """Returns a line for each trial whose first fault does not begin as it must, or that has none or any."""
-    failures = []
-    for wanted, given in trials:
-        found = faults_of(given)
-        if bool(found) != bool(wanted) or not "".join(found[:1]).startswith(wanted):
-            failures.append(f"{what} is not refused for `{wanted}`, but: {found}")
-    return failures
-
-
-def item_failures():
-    """Returns a line if the items of the source are not read as they must be."""
-    found = {item.name: item.clauses for item in items_in(Path("a.rt"), SOURCE, {"Count", "Counts"})}
-    return [] if found == ITEMS else [f"the items of a source are read as {found}"]
-
-
-def theorem_faults(cell):
-    """Returns the faults of a page of theorems whose only row has this second cell, or that has no row."""
-    row = f"| It counts | {cell} |\n" if cell else ""
-    return theorems.row_faults(f"{theorems.HEAD}\n|---|---|\n{row}", CONTRACTS.get)[1]
+# The same for the name of an edit of the crate `run_events_stats`.
+EDITS = (
+    ("", "RunStats.of_run.wrong.edit"),
+    ("no such public function", "RunStats.of_runs.wrong.edit"),
+    ("no such public function", "RunStats.count_units.wrong.edit"),
+    ("no such public function", "of_run.wrong.edit"),
+    ("no such public function", "Stats.of_run.wrong.edit"),
+)
+# The same for a line of a definition.
+LINES = (
+    ("", "x" * 160),
+    ("", f"pub use {'x' * 160}"),
+    ("line 2 is longer", f"one\n{'≡' * 161}"),
+    ("line 1 is longer", f" use {'x' * 160}"),
+)
 
 
 def first_page_faults(shown):
-    """Returns the faults of a source whose first page has a text."""
+    """Returns the faults of a source whose first page shows a text."""
     comment = "".join(f"//! {line}".rstrip() + "\n" for line in shown.split("\n"))
-    return first_pages.faults(f"{comment}\nfn own() {{}}\n", PROVED)[1]
+    return sources.first_page_faults(f"{comment}\nfn own() {{}}\n", PROVED)
 
 
-def presence_faults(words):
-    """Returns the faults of a page that has a block with these words."""
-    return excerpts.presence_faults([Page("a.md", f"```{words}\na\n```\n")])[1]
-
-
-def run(top):
-    """Runs all tests, and returns the exit status."""
-    count, failures = page_failures(top)
-    failures += misjudged("the edit", EDITS, lambda name: not edits.faults([name], SOURCES))
-    failures += misjudged("a caller", CALLERS, lambda pair: callers.is_caller(*pair))
-    failures += misjudged("a line", LINES, lambda text: not lengths.faults(text)[1])
-    failures += missed("a row of theorems", THEOREMS, theorem_faults)
-    failures += item_failures()
-    failures += missed("a first page", FIRST_PAGES, first_page_faults)
-    failures += missed("a page without an excerpt", PRESENCE, presence_faults)
-    for line in failures:
-        print(f"documents: {line}", file=sys.stderr)
-    count += sum(map(len, (EDITS, CALLERS, LINES, THEOREMS, FIRST_PAGES, PRESENCE))) + 1
-    print(f"documents: {count} trials, {len(failures)} failed")
-    return 1 if failures else 0
+def run(faults_of_page):
+    """Tries all faults, and returns the exit status. `faults_of_page` takes the name and the text of a page."""
+    results = [(wanted, text, faults_of_page("page.md", text)) for wanted, text in PAGES]
+    results += [(wanted, text, faults_of_page(name, text)) for wanted, name, text in NAMED_PAGES]
+    results += [(wanted, text, first_page_faults(text)) for wanted, text in FIRST_PAGES]
+    results += [(wanted, text, sources.edit_faults("run_events_stats", [text])) for wanted, text in EDITS]
+    results += [(wanted, text, sources.line_faults(text)) for wanted, text in LINES]
+    failed = 0
+    for wanted, text, found in results:
+        if len(found) != bool(wanted) or wanted not in "".join(found):
+            print(f"documents: not refused for `{wanted}`, but for {found}:\n{text}", file=sys.stderr)
+            failed += 1
+    print(f"documents: {len(results)} trials, {failed} failed")
+    return 1 if failed else 0
