@@ -85,12 +85,8 @@ fn main() -> ExitCode {
 mod tests {
     use super::*;
 
-    /// What `./run-digest --help` prints. The proved program prints the same.
+    /// What the proved `run-digest --help` prints.
     const DIGEST: &str = include_str!("../../../tools/help/run-digest.txt");
-
-    /// What `./test-report --help` and `./test-report -h` print. `tools/write-help` writes them.
-    const REPORT: &str = include_str!("../../../tools/help/test-report.txt");
-    const SHORT_REPORT: &str = include_str!("../../../tools/help/test-report.short.txt");
 
     /// Returns the words of a text, one a line.
     fn words_of(text: &str) -> String {
@@ -108,16 +104,6 @@ mod tests {
         let beginning = own.strip_suffix("writing\nfailed\n").expect(&own);
         let last = words_of("writing failed, or there was not enough memory");
         assert_eq!(beginning.to_owned() + &last, words_of(DIGEST));
-    }
-
-    #[test]
-    fn the_stored_help_is_that_of_test_report() {
-        let (long, short) = (
-            test_report().render_long_help(),
-            test_report().render_help(),
-        );
-        assert_eq!(words_of(&long.to_string()), words_of(REPORT));
-        assert_eq!(words_of(&short.to_string()), words_of(SHORT_REPORT));
     }
 
     #[test]

@@ -3,7 +3,7 @@
 //! `data/upstream_replay.txt` has a case in each line: the name of its kind, a space, and the case. A
 //! line that begins with `#` describes the cases after it. A line that begins with `changed` has a
 //! case with another result than the stored one, and a line that begins with `malformed` has no case.
-//! These two kinds show that the replay notices a wrong line. `tools/pack-replay` packs lines for the
+//! These two kinds show that the replay notices a wrong line. `tools/generate` packs lines for the
 //! crate `deodarsieve`, which replays them in its own tests. All other lines are replayed here.
 //! `docs/PLAIN-RUST.md` has the number of lines, which `tools/documents` compares.
 
