@@ -1,7 +1,6 @@
 //! Arguments of both programs: those that are refused, `--help` and `--version`.
 
 use crate::common::{self, Folder, assert_output, end_of_text, run};
-use std::path::Path;
 use std::process::Output;
 
 /// A run of one test that passes.
@@ -31,48 +30,68 @@ fn not_utf8() -> std::ffi::OsString {
 
 #[test]
 fn test_report_refuses_arguments() {
-    let refused: [&[&str]; 15] = [
+    let refused: [&[&str]; 7] = [
         &["--nothing"],
         &["-x"],
-        &["--format", "xml"],
         &["--format", ""],
-        &["--format", "text", "--format", "text"],
-        &["--no-tests", "warn"],
-        &["--color", "yes"],
-        &["--progress", "yes"],
         &["--junit"],
-        &["--html", "a", "--html", "b"],
-        &["--markdown=a", "--markdown=b"],
         &["--limit"],
         &["--limit", "-1"],
-        &["--slowest", "many"],
         &["--raw=yes"],
     ];
     for arguments in refused {
-        let output = run("test-report", arguments, PASSED.as_bytes());
-        assert_eq!(output.status.code(), Some(2), "{arguments:?}");
-        assert_eq!(output.stdout, b"", "{arguments:?}");
-        assert!(output.stderr.starts_with(b"error: "), "{arguments:?}");
+        assert_refused(arguments);
+    }
+}
+
+/// Asserts that a message refuses arguments, and that nothing is read.
+fn assert_refused(arguments: &[&str]) {
+    let output = run("test-report", arguments, PASSED.as_bytes());
+    assert_eq!(output.status.code(), Some(2), "{arguments:?}");
+    assert_eq!(output.stdout, b"", "{arguments:?}");
+    assert!(output.stderr.starts_with(b"error: "), "{arguments:?}");
+}
+
+#[test]
+fn test_report_takes_each_option_once_and_only_its_values() {
+    for option in OPTIONS.map(|option| option.split_once(" <")) {
+        let Some((option, kind)) = option else {
+            continue;
+        };
+        let value = match kind {
+            "FORM>" => "text",
+            "HOW>" => "whole",
+            "LEVEL>" | "ACTION>" => "pass",
+            "WHEN>" if option.ends_with("output") => "final",
+            "WHEN>" => "never",
+            _ => "0",
+        };
+        assert_refused(&[option, value, option, value]);
+        // The messages for these two values are the program's own, and a file may have any name.
+        if !["FILE>", "BYTES>", "SECONDS>"].contains(&kind) {
+            assert_refused(&[option, "other"]);
+        }
+    }
+    for flag in ["--raw", "--failed"] {
+        assert_refused(&[flag, flag]);
     }
 }
 
 #[test]
 fn test_report_refuses_numbers() {
+    let bytes = "neither a number of bytes nor `none`";
+    let seconds =
+        "not a number of seconds such as 60 or 2.5, with at most nine digits before the point";
     let refused = [
-        (["--limit", "many"], "neither a number of bytes nor `none`"),
-        (
-            ["--limit", "18446744073709551616"],
-            "neither a number of bytes nor `none`",
-        ),
-        (
-            ["--slow", "1e3"],
-            "not a number of seconds such as 60 or 2.5, with at most nine digits before the point",
-        ),
+        ("--limit", "many 18446744073709551616 None ", bytes),
+        ("--slow", "late 1e3 .5 1. 1000000000 ", seconds),
     ];
-    for ([option, value], what) in refused {
-        let output = run("test-report", &[option, value], PASSED.as_bytes());
-        let message = format!("test-report: {option} {value}: {what}\n");
-        assert_output(&output, b"", message.as_bytes(), 2, &message);
+    for (option, values, what) in refused {
+        for value in values.split(' ') {
+            let output = run("test-report", &[option, value], PASSED.as_bytes());
+            let message = format!("test-report: {option} {value}: {what}\n");
+            assert_output(&output, b"", message.as_bytes(), 2, &message);
+        }
     }
     // The lines of a run have numbers of attempts up to 1,000.
     let output = run("test-report", &["--retries", "1000"], PASSED.as_bytes());
@@ -107,49 +126,6 @@ fn test_report_takes_arguments() {
         let output = run("test-report", arguments, PASSED.as_bytes());
         let what = format!("{arguments:?}");
         assert_output(&output, report.as_bytes(), b"", 0, &what);
-    }
-}
-
-#[test]
-fn test_report_reads_several_files() {
-    let samples = Path::new(env!("CARGO_MANIFEST_DIR")).join("tests/samples/test-report");
-    let failed = samples.join("failed.jsonl");
-    let failed = failed.to_str().expect("the path is UTF-8");
-    let cases: [(&[&str], &str); 4] = [
-        (&[failed], "money::parses\n"),
-        (&[failed, failed], "money::parses\nmoney::parses\n"),
-        (&[failed, "-"], "money::parses\n"),
-        (&["-", failed, "-"], "money::parses\n"),
-    ];
-    for (files, names) in cases {
-        let arguments = [&["--format", "names"], files].concat();
-        let output = run("test-report", &arguments, PASSED.as_bytes());
-        assert_output(&output, names.as_bytes(), b"", 1, &format!("{files:?}"));
-    }
-}
-
-#[test]
-fn test_report_without_tests() {
-    let lines = "{\"type\":\"suite\",\"event\":\"started\",\"test_count\":0}\n\
-        {\"type\":\"suite\",\"event\":\"ok\",\"passed\":0,\"failed\":0}\n";
-    let summary =
-        "0 tests run: 0 passed (0 flaky), 0 failed (0 timed out, 0 crashed), 0 skipped, 0 not run";
-    let report = end_of_text("", "no test ran", summary, "no-tests-run");
-    for (action, status) in [("fail", 1), ("pass", 0)] {
-        let output = run("test-report", &["--no-tests", action], lines.as_bytes());
-        assert_output(&output, report.as_bytes(), b"", status, action);
-    }
-}
-
-#[test]
-fn test_report_colours_by_its_argument_alone_in_a_pipe() {
-    let lines = PASSED.replace("\"ok\"", "\"failed\"");
-    let red = "\u{1b}[1;31mFAIL\u{1b}[0m suite 1 adds\n";
-    for (color, is_red) in [("auto", false), ("never", false), ("always", true)] {
-        let output = run("test-report", &["--color", color], lines.as_bytes());
-        assert_eq!(output.status.code(), Some(1), "{color}");
-        assert_eq!(output.stdout.starts_with(red.as_bytes()), is_red, "{color}");
-        assert_eq!(output.stdout.contains(&0x1b), is_red, "{color}");
     }
 }
 

@@ -64,6 +64,8 @@ fn a_failure_is_written_while_the_input_is_open() {
         pipe.read_to_string(&mut rest).expect("the text is UTF-8");
         let status = running.child.wait().expect("the program ends");
         assert_eq!(status.code(), Some(1), "{form}: {rest}");
+        let whole = run("test-report", &["--format", form], lines.as_bytes());
+        assert_eq!((line + &rest).as_bytes(), whole.stdout, "{form}");
     }
 }
 
@@ -164,14 +166,6 @@ fn the_line_of_progress_is_gone_at_the_end() {
             assert!(shown.starts_with(&line), "{input}: {shown:?}");
             assert_eq!(first, end, "{input}: {shown:?}");
         }
-    }
-}
-
-#[test]
-fn there_is_no_line_of_progress_in_a_pipe() {
-    for progress in ["auto", "never"] {
-        let output = run("test-report", &["--progress", progress], FAILED.as_bytes());
-        assert_eq!(String::from_utf8_lossy(&output.stderr), "", "{progress}");
     }
 }
 

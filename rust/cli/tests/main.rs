@@ -27,5 +27,6 @@ mod properties;
 mod report_text;
 mod retries;
 mod saved_runs;
+mod sessions;
 mod stand_ins;
 mod suite_names;

@@ -89,27 +89,6 @@ fn a_folder_that_the_command_removes_is_made_again() {
 }
 
 #[test]
-fn a_file_that_cannot_be_written_ends_the_program_before_the_command_starts() {
-    let folder = Folder::new("before");
-    let (file, ran) = (folder.file("file"), folder.file("ran"));
-    fs::write(&file, "a file").expect("the folder is there");
-    let in_a_file = folder.file("file/a");
-    let with_separator = folder.file("none/");
-    let of_the_folder = folder.file("");
-    for option in OPTIONS {
-        for path in [&in_a_file, &with_separator, &of_the_folder] {
-            let arguments = [option, path, "--", "touch", &ran];
-            assert_unwritten(&run("test-report", &arguments, b""), path);
-        }
-        assert_unwritten(
-            &run("test-report", &[option, "", "--", "touch", &ran], b""),
-            "",
-        );
-    }
-    assert_eq!(names_in(&folder.0), ["file"]);
-}
-
-#[test]
 fn a_file_that_cannot_be_written_ends_the_program_while_its_input_is_open() {
     let folder = Folder::new("open");
     let path = folder.file("file/a");
@@ -121,19 +100,6 @@ fn a_file_that_cannot_be_written_ends_the_program_while_its_input_is_open() {
     let output = common::soon("the end of the program", || child.wait_with_output());
     assert_unwritten(&output.expect("the program ends"), &path);
     drop(stdin);
-}
-
-#[test]
-fn old_files_are_removed_although_another_file_cannot_be_written() {
-    let folder = Folder::new("others");
-    let (old, refused) = (folder.file("old"), folder.file("file/a"));
-    fs::write(folder.file("file"), "a file").expect("the folder is there");
-    for (first, second) in [("--junit", "--json"), ("--json", "--junit")] {
-        fs::write(&old, "of an earlier run").expect("the folder is there");
-        let arguments = [first, &old, second, &refused];
-        assert_unwritten(&run("test-report", &arguments, b""), &refused);
-        assert_eq!(names_in(&folder.0), ["file"], "{first}");
-    }
 }
 
 #[test]
@@ -347,17 +313,6 @@ fn a_second_signal_while_a_file_is_written_leaves_nothing_behind() {
     assert!(rest.join().expect("the thread ends").is_ok());
     drop(stderr);
     assert!(!has_temporary(&folder.0));
-}
-
-#[test]
-fn options_that_name_one_file_in_a_folder_that_is_not_there_are_refused() {
-    let folder = Folder::new("one");
-    let (first, second) = (folder.file("none/a"), folder.file("none/x/../a"));
-    let arguments = ["--junit", &first, "--html", &second];
-    let output = run("test-report", &arguments, RUN.as_bytes());
-    let message = format!("test-report: --junit {first} and --html {second} are one file\n");
-    common::assert_output(&output, b"", message.as_bytes(), 2, "conflict");
-    assert!(names_in(&folder.0).is_empty());
 }
 
 #[test]
