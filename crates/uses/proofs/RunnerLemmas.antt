@@ -1,9 +1,27 @@
--- The finished units of events.
-use Rattle.std.proofs.Common.{◌≡◌, List, [], ◌∷◌, ◌++◌, map, ap, sym, ◌∙◌}
-use Rattle.std.proofs.lemmas.List.{append-nil, map_push}
+-- The statuses of attempts, and the finished units of events.
+use Rattle.std.proofs.Common.{◌≡◌, ◌+◌, ℕ, List, [], ◌∷◌, ◌++◌, length, map, ap, refl, sym, ◌∙◌}
+use Rattle.std.proofs.lemmas.List.{append-nil, length_push, map_push}
 use Rattle.std.specs.Prelude.{Option, None, Some, option_to_list}
+use Rattle.run_events.specs.Attempts.{attempts_of, flaky_result_of, view_of}
 use Rattle.run_events.specs.Counters.{UnitView, unit_view}
+use Rattle.run_events_attempts.specs.declared.attempts.ExecuteStatus.{ExecuteStatus}
+use Rattle.run_events_attempts.specs.declared.attempts.RetryData.{RetryData}
+use Rattle.run_events_attempts.specs.declared.attempts.statuses.ExecutionStatuses.{ExecutionStatuses}
+use Rattle.run_events_attempts.specs.declared.child.LiveSpec.{LiveSpec}
+use Rattle.run_events_attempts.specs.declared.child.output.ChildOutputDescription.{ChildOutputDescription}
+use Rattle.run_events_results.specs.declared.config.FlakyResult.{FlakyResult}
 use Rattle.run_events_stats.specs.declared.stats.FinishedUnit.{FinishedUnit}
+use Rattle.uses.specs.Runner.{AddsStatus, view_of_attempts}
+use Rattle.uses.specs.declared.of_run_events.EndedAttempt.{EndedAttempt}
+use Rattle.uses.proofs.Lists.{last_pushed}
+
+-- the view of a test whose last attempt is the one that is added
+pub view_added : {attempt : EndedAttempt} {number : RetryData} {old new : List (ExecuteStatus LiveSpec ChildOutputDescription)}
+    (test : ExecutionStatuses LiveSpec ChildOutputDescription) (count : ℕ) (setting : FlakyResult)
+    → AddsStatus attempt number old new → attempts_of test ≡ new → length old + 1 ≡ count → flaky_result_of test ≡ setting
+    → view_of test ≡ view_of_attempts count attempt.outcome attempt.is_slow setting
+view_added test count setting added is counted set =
+    simp is (rw (added.items, last_pushed _ added.status, length_push _ added.status, added.result, added.is_slow, counted, set) refl)
 
 -- the finished unit of one more event comes after those of the events before it
 pub lent_more : (lent : List FinishedUnit) (unit : FinishedUnit) (before all : List UnitView) (told : Option UnitView)

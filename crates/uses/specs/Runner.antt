@@ -1,9 +1,10 @@
 -- The attempts that a runner makes, and the units in its events.
-use Rattle.std.specs.Prelude.{ℕ, Bool, List, Option, None, Some, option_and_then}
+use Rattle.std.specs.Prelude.{◌≡◌, ◌∷◌, ◌++◌, [], ℕ, Bool, List, Option, None, Some, option_and_then}
 use Rattle.run_events.specs.Counters.{ScriptUnit, TestUnit, UnitView}
 use Rattle.run_events.specs.Described.{described_result}
 use Rattle.run_events.specs.Attempts.{attempts_of, last_of, view_of}
 use Rattle.run_events.specs.ViewedTest.{ViewedTest}
+use Rattle.run_events_attempts.specs.declared.attempts.ExecuteStatus.{ExecuteStatus}
 use Rattle.run_events_attempts.specs.declared.attempts.RetryData.{RetryData}
 use Rattle.run_events_attempts.specs.declared.attempts.statuses.ExecutionStatuses.{ExecutionStatuses}
 use Rattle.run_events_attempts.specs.declared.child.ChildExecutionOutputDescription.{ChildExecutionOutputDescription}
@@ -33,6 +34,15 @@ numbered_of total number = record { attempt = number; total_attempts = total }
 -- the output of an attempt: its result, its standard error, no standard output, and no error
 abbrev pub left_by : EndedAttempt → ChildExecutionOutputDescription LiveSpec ChildOutputDescription
 left_by attempt = left.Output (Some (described_result attempt.outcome None)) (Split None (Some attempt.stderr.now)) None
+
+-- the status of an attempt with this number is added at the end of a list
+pub record AddsStatus (attempt : EndedAttempt) (number : RetryData) (old new : List (ExecuteStatus LiveSpec ChildOutputDescription)) : Type 0 where
+  pub status : ExecuteStatus LiveSpec ChildOutputDescription
+  pub items : new ≡ old ++ status ∷ []
+  pub retry_data : status.retry_data ≡ number
+  pub output : status.output ≡ left_by attempt
+  pub result : status.result ≡ described_result attempt.outcome None
+  pub is_slow : status.is_slow ≡ attempt.is_slow
 
 -- the start of a run of one setup script and one test, of which none was skipped, and which was not cancelled
 abbrev pub start_of_both : RunStart

@@ -1,11 +1,11 @@
 //! The callers that the page on calling `run_events` shows.
 
-ghost use Rattle.std.specs.Prelude.{◌≡◌, ◌↔◌, ◌∷◌, [], IfOk, IsTrue, None, Some, map};
+ghost use Rattle.std.specs.Prelude.{◌≡◌, ◌↔◌, ◌∷◌, [], IfOk, IsTrue, None, OnOk, map};
 ghost use Rattle.run_events.specs.Attempts.{view_of};
 ghost use Rattle.run_events.specs.Counters.{ScriptUnit, TestUnit, stats_of, unit_view};
 ghost use Rattle.run_events.specs.Described.{described_result};
 ghost use Rattle.run_events.specs.RunLaws.{RunSucceeds};
-ghost use Rattle.uses.specs.Runner.{left_by, start_of_both, stderr_of, view_of_attempts};
+ghost use Rattle.uses.specs.Runner.{AddsStatus, left_by, start_of_both, view_of_attempts};
 
 use bytes::Bytes;
 use jiff::Timestamp;
@@ -35,42 +35,50 @@ pub struct EndedAttempt<'a> {
     pub is_slow: bool,
 }
 
-/// Returns the status of an attempt, from the attempt and its number.
-pub fn status_of(
+/// Adds the status of an attempt, from the attempt and its number.
+pub fn push_status(
     alloc: Global,
+    statuses: &mut Vec<ExecuteStatus<LiveSpec>>,
     attempt: EndedAttempt<'_>,
     retry_data: RetryData,
-) -> Result<ExecuteStatus<LiveSpec>, AllocError>
-    ensures result { IfOk result (λ status. status.result
-        ≡ described_result attempt.entry.outcome None) }
-    ensures slow { IfOk result (λ status. status.is_slow ≡ attempt.entry.is_slow) }
-    ensures retry { IfOk result (λ status. status.retry_data ≡ retry_data) }
-    ensures output { IfOk result (λ status. status.output ≡ left_by attempt.entry) }
-    ensures stderr { IfOk result (λ status. stderr_of status.output
-        ≡ Some attempt.entry.stderr.now) }
+) -> Result<(), AllocError>
+    ensures { OnOk result (AddsStatus attempt.entry retry_data
+        statuses.old.items statuses.new.items) }
 {
+    let output = output_of(alloc, attempt)?;
+    statuses.push(ExecuteStatus {
+        retry_data,
+        output,
+        result: ExecutionResultDescription::from_status(attempt.outcome, None),
+        start_time: epoch(),
+        time_taken: Duration::ZERO,
+        is_slow: attempt.is_slow,
+        delay_before_start: Duration::ZERO,
+        error_summary: None,
+        output_error_slice: None,
+    })?;
+    Ok(())
+}
+
+/// Describes the output of an attempt, of which only standard error was captured.
+fn output_of(
+    alloc: Global,
+    attempt: EndedAttempt<'_>,
+) -> Result<ChildExecutionOutputDescription<LiveSpec>, AllocError>
+    ensures { IfOk result (λ output. output ≡ left_by attempt.entry) }
+{
+    let stderr = Bytes::copy_from_slice(alloc, attempt.stderr)?;
     let left = ChildExecutionOutput::Output {
         result: Some(attempt.outcome),
         output: ChildOutput::Split(ChildSplitOutput {
             stdout: None,
-            stderr: Some(ChildSingleOutput::from(Bytes::copy_from_slice(alloc, attempt.stderr)?)),
+            stderr: Some(ChildSingleOutput::from(stderr)),
         }),
         errors: None,
     };
-    match ChildExecutionOutputDescription::from_output(alloc, left, None) {
-        Ok(output) => Ok(ExecuteStatus {
-            retry_data,
-            output,
-            result: ExecutionResultDescription::from_status(attempt.outcome, None),
-            start_time: epoch(),
-            time_taken: Duration::ZERO,
-            is_slow: attempt.is_slow,
-            delay_before_start: Duration::ZERO,
-            error_summary: None,
-            output_error_slice: None,
-        }),
-        Err(_) => Err(AllocError),
-    }
+    ChildExecutionOutputDescription::from_output(alloc, left, None)
+        .ok()
+        .ok_or(AllocError)
 }
 
 /// Returns the time of every event here, since no clock is read.
@@ -94,7 +102,7 @@ pub fn finished_at_first(
         total_attempts: 1,
     };
     let mut statuses = Vec::new(alloc);
-    statuses.push(status_of(alloc, attempt, first)?)?;
+    push_status(alloc, &mut statuses, attempt, first)?;
     Ok(ExecutionStatuses::new(statuses, FlakyResult::Pass))
 }
 

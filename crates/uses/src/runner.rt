@@ -8,7 +8,7 @@ ghost use Rattle.run_events.specs.Described.{described_result};
 ghost use Rattle.run_events.specs.Attempts.{attempts_of, view_of};
 ghost use Rattle.uses.specs.Runner.{last_stderr, left_by, numbered_of, told_name, told_stats, told_unit, view_of_attempts};
 
-use crate::of_run_events::{EndedAttempt, epoch, status_of};
+use crate::of_run_events::{EndedAttempt, epoch, push_status};
 use run_events::attempts::{ExecutionStatuses, RetryData};
 use run_events::child::LiveSpec;
 use run_events::config::{FlakyResult, JunitFlakyFailStatus, TestInstanceId, TestOutputDisplay};
@@ -19,7 +19,6 @@ use std::time::Duration;
 
 /// Returns a test that finished with the attempt `last` after the earlier ones. The attempts are
 /// numbered from 1, and the total of each is their number. Both stop at `u32::MAX`.
-#[tactic(auto, using(crate::proofs::Lists::last_pushed))]
 pub fn finished_test(
     alloc: Global,
     earlier: &[EndedAttempt<'_>],
@@ -48,10 +47,10 @@ pub fn finished_test(
         total_attempts,
     };
     for attempt in earlier {
-        statuses.push(status_of(alloc, *attempt, retry_data)?)?;
+        push_status(alloc, &mut statuses, *attempt, retry_data)?;
         retry_data.attempt = retry_data.attempt.saturating_add(1);
     }
-    statuses.push(status_of(alloc, last, retry_data)?)?;
+    push_status(alloc, &mut statuses, last, retry_data)?;
     Ok(ExecutionStatuses::new(statuses, setting))
 }
 

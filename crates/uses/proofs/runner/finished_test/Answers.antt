@@ -6,6 +6,8 @@ use Rattle.std.proofs.lemmas.List.FromFn.{map-range_with_len_more}
 use Rattle.run_events_attempts.specs.declared.attempts.ExecuteStatus.{ExecuteStatus}
 use Rattle.run_events_attempts.specs.declared.attempts.RetryData.{RetryData}
 use Rattle.uses.specs.Runner.{numbered_of}
+use Rattle.uses.proofs.Lists.{last_pushed}
+use Rattle.uses.proofs.RunnerLemmas.{view_added}
 use Rattle.uses.proofs.runner.finished_test.Goals as goal
 
 -- one more attempt, with the next number
@@ -31,10 +33,10 @@ loop-attempt-preserved c = record {
       let more : c.saturating_add.result ≡ c.loop-attempt.attempt-index + 1 + 1 =
       grind (arith, common_steps, c.saturating_add.ensures, number, few, c.loop-attempt-test.true, c.loop-attempt.auto.attempt-index-end) in
       cc (more, total);
-  numbers = λ few. rw c.in_ok-push.ensures.items
-      (numbered_more c.loop-attempt.statuses.items c.in_ok-status_of.field-0 (numbered_of (length c.args.earlier.now + 1)) c.loop-attempt.attempt-index
+  numbers = λ few. rw c.in_ok-push_status.ensures.items
+      (numbered_more c.loop-attempt.statuses.items c.in_ok-push_status.ensures.status (numbered_of (length c.args.earlier.now + 1)) c.loop-attempt.attempt-index
       (c.loop-attempt.attempt-index + 1)
-      (c.loop-attempt.invariant.numbers few) (c.in_ok-status_of.ensures.retry ∙ c.loop-attempt.invariant.next few) refl);
+      (c.loop-attempt.invariant.numbers few) (c.in_ok-push_status.ensures.retry_data ∙ c.loop-attempt.invariant.next few) refl);
 }
 
 pub returns-clause-numbers : goal.returns-clause-numbers
@@ -42,6 +44,24 @@ returns-clause-numbers c = λ few.
     let all : c.loop-attempt.attempt-index ≡ length c.args.earlier.now = omega (arith, c.loop-attempt-test.false, c.loop-attempt.auto.attempt-index-end) in
     let so_far = rw all at c.loop-attempt.invariant.numbers few in
     let next = rw all at c.loop-attempt.invariant.next few in
-    rw (c.new.ensures.attempts, c.in_ok-push-2.ensures.items)
-    (numbered_more c.loop-attempt.statuses.items c.in_ok-status_of-2.field-0 (numbered_of (length c.args.earlier.now + 1)) _ _ so_far
-    (c.in_ok-status_of-2.ensures.retry ∙ next) refl)
+    rw (c.new.ensures.attempts, c.in_ok-push_status-2.ensures.items)
+    (numbered_more c.loop-attempt.statuses.items c.in_ok-push_status-2.ensures.status (numbered_of (length c.args.earlier.now + 1)) _ _ so_far
+    (c.in_ok-push_status-2.ensures.retry_data ∙ next) refl)
+
+pub returns-clause-view : goal.returns-clause-view
+returns-clause-view c = view_added c.new.result _ _ c.in_ok-push_status-2.ensures c.new.ensures.attempts
+    (omega (arith, c.loop-attempt.invariant.count, c.loop-attempt-test.false, c.loop-attempt.auto.attempt-index-end)) c.new.ensures.flaky_result
+
+pub returns-clause-stderr : goal.returns-clause-stderr
+returns-clause-stderr c =
+    let added = c.in_ok-push_status-2.ensures in
+    rw (c.new.ensures.attempts, added.items, last_pushed _ added.status, added.output) refl
+
+pub returns-clause-outputs : goal.returns-clause-outputs
+returns-clause-outputs c = search (rules, common_steps)
+
+pub returns-clause-results : goal.returns-clause-results
+returns-clause-results c = search (rules, common_steps)
+
+pub returns-clause-slow : goal.returns-clause-slow
+returns-clause-slow c = search (rules, common_steps)

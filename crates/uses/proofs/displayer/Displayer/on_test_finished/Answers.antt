@@ -1,4 +1,5 @@
-use Rattle.std.proofs.Common.{◌≡◌, ◌∙◌, ap, sym}
+use Rattle.std.proofs.Common.{◌≡◌, ◌∙◌, ap, sym, arith, rules}
+use Rattle.std.proofs.lemmas.Grind.{common_steps}
 use Rattle.std.specs.Prelude.{Bool, if◌then◌else◌, Some}
 use Rattle.run_events.specs.Config.{is_final_display, is_immediate_display}
 use Rattle.run_events.specs.Level.{final_level_of}
@@ -54,3 +55,12 @@ returns-clause-under_signal c signal =
     ∙ stored_under_signal _ _ signal
     ∙ ap (λ (b : Bool). without_output b (Listed c.display_for-display.result)) (sym shown)
     ∙ ap (λ (d : TestOutputDisplay). without_output c.compute_output_on_test_finished.result.show_immediate (Listed d)) display)
+
+pub returns-clause-line : goal.returns-clause-line
+returns-clause-line c = grind (arith, common_steps)
+
+pub returns-clause-never_twice : goal.returns-clause-never_twice
+returns-clause-never_twice c = search rules
+
+pub returns-clause-interrupted : goal.returns-clause-interrupted
+returns-clause-interrupted c = search rules
