@@ -29,11 +29,12 @@ pub fn give<T: Copy>(answer: &mut T, value: Option<T>) -> u32
 pub fn finished_test(test: &FfiTestView) -> Option<FinishedTest>
     ensures { option_map finished_view result ≡ view_in test.now }
 {
+    let flaky_result = codes::flaky_result(test.flaky_result)?;
     Some(FinishedTest {
         result: codes::described(test.result)?,
         attempts: test.attempts,
         is_slow: test.is_slow,
-        flaky_result: codes::flaky_result(test.flaky_result)?,
+        flaky_result,
     })
 }
 

@@ -19,11 +19,12 @@ pub fn give<T: Copy>(answer: &mut T, value: Option<T>) -> u32 {
 
 /// Returns the finished test, or `None` if a code is not in its table.
 pub fn finished_test(test: &FfiTestView) -> Option<FinishedTest> {
+    let flaky_result = codes::flaky_result(test.flaky_result)?;
     Some(FinishedTest {
         result: codes::described(test.result)?,
         attempts: test.attempts,
         is_slow: test.is_slow,
-        flaky_result: codes::flaky_result(test.flaky_result)?,
+        flaky_result,
     })
 }
 
