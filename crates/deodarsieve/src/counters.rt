@@ -24,10 +24,10 @@ pub extern "C" fn deodarsieve_run_stats_count_test(
     ensures value { result ≡ OK → stats_in stats.new ≡ test_counted stats.old test.now }
     ensures untouched { result ≢ OK → stats.new ≡ stats.old }
 {
-    let (Some(mut counters), Some(finished)) = (
-        values::run_stats(stats),
-        values::finished_test(test),
-    ) else {
+    let Some(mut counters) = values::run_stats(stats) else {
+        return BAD_CODE;
+    };
+    let Some(finished) = values::finished_test(test) else {
         return BAD_CODE;
     };
     if counters.try_on_test_view(&finished.view()).is_err() {
@@ -51,8 +51,10 @@ pub extern "C" fn deodarsieve_run_stats_count_script(
     ensures value { result ≡ OK → stats_in stats.new ≡ script_counted stats.old script.now }
     ensures untouched { result ≢ OK → stats.new ≡ stats.old }
 {
-    let (Some(mut counters), Some(ended)) = (values::run_stats(stats), codes::described(*script))
-    else {
+    let Some(mut counters) = values::run_stats(stats) else {
+        return BAD_CODE;
+    };
+    let Some(ended) = codes::described(*script) else {
         return BAD_CODE;
     };
     if counters.try_on_script_result(&ended).is_err() {

@@ -12,9 +12,10 @@ pub extern "C" fn deodarsieve_run_stats_count_test(
     stats: &mut FfiRunStats,
     test: &FfiTestView,
 ) -> u32 {
-    let (Some(mut counters), Some(finished)) =
-        (values::run_stats(stats), values::finished_test(test))
-    else {
+    let Some(mut counters) = values::run_stats(stats) else {
+        return BAD_CODE;
+    };
+    let Some(finished) = values::finished_test(test) else {
         return BAD_CODE;
     };
     if counters.try_on_test_view(&finished.view()).is_err() {
@@ -31,8 +32,10 @@ pub extern "C" fn deodarsieve_run_stats_count_script(
     stats: &mut FfiRunStats,
     script: &FfiResult,
 ) -> u32 {
-    let (Some(mut counters), Some(ended)) = (values::run_stats(stats), codes::described(*script))
-    else {
+    let Some(mut counters) = values::run_stats(stats) else {
+        return BAD_CODE;
+    };
+    let Some(ended) = codes::described(*script) else {
         return BAD_CODE;
     };
     if counters.try_on_script_result(&ended).is_err() {

@@ -6,12 +6,12 @@ use Rattle.deodarsieve.proofs.counters.deodarsieve_run_stats_count_script.Goals 
 -- all codes are in their tables, and the counters with one more script fit
 pub returns-clause-ok : goal.returns-clause-ok
 returns-clause-ok c =
-    let counted : script_counted c.args.stats.now c.args.script.now ≡ Some (with_script c.in-Some-Some.counters c.in-Some-Some.ended) = search rules in
-    let room : ScriptCountersFit (with_script c.in-Some-Some.counters c.in-Some-Some.ended) = search rules in
+    let counted : script_counted c.args.stats.now c.args.script.now ≡ Some (with_script c.in-Some.counters c.in-Some-described.ended) = search rules in
+    let room : ScriptCountersFit (with_script c.in-Some.counters c.in-Some-described.ended) = search rules in
     rw counted (λ _. room, λ _. refl)
 
 pub returns-clause-counter_full : goal.returns-clause-counter_full
 returns-clause-counter_full c =
-    let counted : script_counted c.args.stats.now c.args.script.now ≡ Some (with_script c.in-Some-Some.counters c.in-Some-Some.ended) = search rules in
-    let room : ScriptCountersFit (with_script c.in-Some-Some.counters c.in-Some-Some.ended) = search rules in
+    let counted : script_counted c.args.stats.now c.args.script.now ≡ Some (with_script c.in-Some.counters c.in-Some-described.ended) = search rules in
+    let room : ScriptCountersFit (with_script c.in-Some.counters c.in-Some-described.ended) = search rules in
     rw counted (λ same. search rules, λ full. absurd (full room))

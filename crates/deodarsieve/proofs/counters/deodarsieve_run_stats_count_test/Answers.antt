@@ -7,6 +7,6 @@ use Rattle.deodarsieve.proofs.counters.deodarsieve_run_stats_count_test.Goals as
 -- all codes are in their tables, and the counters with one more test do not fit
 pub returns-then-is_err-clause-counter_full : goal.returns-then-is_err-clause-counter_full
 returns-then-is_err-clause-counter_full c =
-    let counted : test_counted c.args.stats.now c.args.test.now ≡ Some (with_test c.in-Some-Some.counters (said_of c.view.result)) = search rules in
-    let full : TestCountersFit (with_test c.in-Some-Some.counters (said_of c.view.result)) → ⊥ = λ fits. search rules in
+    let counted : test_counted c.args.stats.now c.args.test.now ≡ Some (with_test c.in-Some.counters (said_of c.view.result)) = search rules in
+    let full : TestCountersFit (with_test c.in-Some.counters (said_of c.view.result)) → ⊥ = λ fits. search rules in
     rw counted (λ _. full, λ _. refl)
