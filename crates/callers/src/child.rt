@@ -10,7 +10,8 @@ use run_events::child::{
     ChildStartError, ErrorList, LiveSpec, Refused,
 };
 use run_events::results::{
-    AbortStatus, ExecutionResult, ExecutionResultDescription, FailureStatus,
+    AbortDescription, AbortStatus, ExecutionResult, ExecutionResultDescription, FailureDescription,
+    FailureStatus,
 };
 use std::alloc::{AllocError, Global};
 
@@ -54,26 +55,37 @@ fn ended(alloc: Global, count: u32) -> Result<ChildExecutionOutput, AllocError> 
 /// Returns the description of [`ended`].
 pub(crate) fn described(alloc: Global, count: u32) -> Result<Description, AllocError> {
     let output = ended(alloc, count)?;
-    match Description::from_output(alloc, output, None) {
-        Ok(described) => Ok(described),
-        Err(_) => Err(AllocError),
+    Description::from_output(alloc, output, None)
+        .ok()
+        .ok_or(AllocError)
+}
+
+/// What a description must be.
+#[derive(Clone, Copy)]
+enum Wanted<'a> {
+    /// That of [`ended`], with the name of the signal and errors that have these messages.
+    Ended(&'a [String]),
+
+    /// That of a process that was not started, because of an error with the message `s`.
+    NotStarted,
+}
+
+/// Returns true if this is the result of [`ended`], with the name of the signal.
+fn is_end(end: &Option<ExecutionResultDescription>) -> bool {
+    match end {
+        Some(
+            ExecutionResultDescription::Fail {
+                failure: FailureDescription::Abort {
+                    abort: AbortDescription::UnixSignal {
+                        signal: 15,
+                        name: Some(name),
+                    },
+                },
+                leaked: true,
+            },
+        ) => name.as_str() == "TERM",
+        _ => false,
     }
-}
-
-/// What the description of [`ended`] must be: its result, and the messages of its errors.
-#[derive(Drop)]
-struct Wanted {
-    result: Option<ExecutionResultDescription>,
-    messages: Vec<String>,
-}
-
-/// Returns what the description of [`ended`] with the name of the signal must be.
-fn what_is_wanted(alloc: Global, count: u32) -> Result<Wanted, AllocError> {
-    let name = String::from_str(alloc, "TERM")?;
-    Ok(Wanted {
-        result: Some(ExecutionResultDescription::from_status(END, Some(name))),
-        messages: causes(alloc, count)?,
-    })
 }
 
 /// Returns true if this is the captured output of [`ended`].
@@ -109,18 +121,20 @@ fn are_read(errors: &Option<ErrorList<ChildErrorDescription>>, messages: &[Strin
 }
 
 /// Returns true if this is the description that is wanted.
-fn is_wanted(described: &Description, wanted: &Wanted) -> bool {
-    match described {
-        ChildExecutionOutputDescription::Output {
-            result,
-            output,
-            errors,
-        } => {
-            *result == wanted.result
-                && is_captured(output)
-                && are_read(errors, wanted.messages.as_slice())
+fn is_wanted(described: &Description, wanted: Wanted<'_>) -> bool {
+    match (described, wanted) {
+        (
+            ChildExecutionOutputDescription::Output {
+                result,
+                output,
+                errors,
+            },
+            Wanted::Ended(messages),
+        ) => is_end(result) && is_captured(output) && are_read(errors, messages),
+        (ChildExecutionOutputDescription::StartError(error), Wanted::NotStarted) => {
+            has_message(Some(error.source()), "s")
         }
-        ChildExecutionOutputDescription::StartError(_) => false,
+        _ => false,
     }
 }
 
@@ -129,7 +143,7 @@ fn is_described(
     alloc: Global,
     output: ChildExecutionOutput,
     name: Option<String>,
-    wanted: &Wanted,
+    wanted: Wanted<'_>,
 ) -> Result<bool, Refused> {
     let described = Description::from_output(alloc, output, name)?;
     Ok(is_wanted(&described, wanted))
@@ -137,7 +151,7 @@ fn is_described(
 
 /// Returns true if what a call gave back is described as wanted: output and name are unchanged, so their description is
 /// the same as at first.
-fn is_described_again(alloc: Global, refused: Refused, wanted: &Wanted) -> bool {
+fn is_described_again(alloc: Global, refused: Refused, wanted: Wanted<'_>) -> bool {
     is_described(alloc, refused.output, refused.name, wanted).unwrap_or(false)
 }
 
@@ -146,7 +160,7 @@ fn outcome_of(
     alloc: Global,
     output: ChildExecutionOutput,
     name: String,
-    wanted: &Wanted,
+    wanted: Wanted<'_>,
 ) -> Outcome {
     match is_described(alloc, output, Some(name), wanted) {
         Ok(is_right) => Outcome::RightAnswer.only_if(is_right),
@@ -156,9 +170,10 @@ fn outcome_of(
 
 /// Returns the outcome of describing the output of [`ended`]. Fails if memory runs out before the call.
 fn ended_outcome(alloc: Global, count: u32) -> Result<Outcome, AllocError> {
-    let wanted = what_is_wanted(alloc, count)?;
+    let messages = causes(alloc, count)?;
     let name = String::from_str(alloc, "TERM")?;
-    Ok(outcome_of(alloc, ended(alloc, count)?, name, &wanted))
+    let output = ended(alloc, count)?;
+    Ok(outcome_of(alloc, output, name, Wanted::Ended(messages.as_slice())))
 }
 
 /// Describes output with two errors.
@@ -166,27 +181,11 @@ pub(crate) fn from_output(alloc: Global) -> Result<Outcome, AllocError> {
     ended_outcome(alloc, 2)
 }
 
-/// Returns true if this describes a process that was not started, by an error with the message `s`.
-fn is_not_started(described: &Description) -> bool {
-    match described {
-        ChildExecutionOutputDescription::StartError(error) => {
-            has_message(Some(error.source()), "s")
-        }
-        ChildExecutionOutputDescription::Output { .. } => false,
-    }
-}
-
-/// Returns true if an error in starting a process is described as it should be. Fails if memory runs out.
-fn is_start_error_described(alloc: Global, source: SerializableError) -> Result<bool, Refused> {
-    let output = ChildExecutionOutput::StartError(ChildStartError::Spawn(source));
-    let described = Description::from_output(alloc, output, None)?;
-    Ok(is_not_started(&described))
-}
-
 /// Describes output without errors, and an error in starting a process. This takes no memory.
 pub(crate) fn from_output_without_errors(alloc: Global) -> Result<Outcome, AllocError> {
     let source = error(alloc, String::from_str(alloc, "s")?)?;
     let outcome = ended_outcome(alloc, 0)?;
-    let is_right = is_start_error_described(alloc, source).unwrap_or(false);
+    let output = ChildExecutionOutput::StartError(ChildStartError::Spawn(source));
+    let is_right = is_described(alloc, output, None, Wanted::NotStarted).unwrap_or(false);
     Ok(outcome.only_if(is_right))
 }
