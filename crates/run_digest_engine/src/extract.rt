@@ -3,13 +3,13 @@
 ghost use Rattle.std.specs.Prelude.{◌≡◌, ◌↔◌, ◌⊎◌, true, false, IfErr, IfOk, IfSome, OnOk, IsErrOf, Option, is_some, option_map, string_bytes};
 ghost use Rattle.program_io.specs.Engine.{Answers, KeepsSink, ReadsToEnd};
 ghost use Rattle.output_slice.specs.Extraction.{Extract};
-ghost use Rattle.output_slice.specs.Shown.{extract_of};
-ghost use Rattle.run_digest_engine.specs.ExtractAnswer.{IsExtractAnswer, IsExtracted, TellsEachExtract, extract_text, heading};
+ghost use Rattle.output_slice.specs.Shown.{extract_of, slice_of};
+ghost use Rattle.run_digest_engine.specs.ExtractAnswer.{IsExtractAnswer, IsExtracted, TellsEachExtract, extract_text, heading, slice_text};
 ghost use Rattle.run_digest_engine.specs.Fault.{stage_of};
 ghost use Rattle.run_digest_engine.specs.declared.fault.Fault.TheVariants as faults;
 
 use crate::fault::Fault;
-use output_slice::subslice::TestOutputErrorSlice;
+use output_slice::subslice::{ByteSubslice, TestOutputErrorSlice};
 use program_io::device::{Sink, Source};
 use program_io::transfer::{read_all, write_all};
 use std::alloc::{AllocError, Global};
@@ -41,19 +41,25 @@ fn extracted(output: &[u8]) -> Option<TestOutputErrorSlice<'_>>
 fn text_of(alloc: Global, found: Option<TestOutputErrorSlice<'_>>) -> Result<Vec<u8>, AllocError>
     ensures { IfOk result (λ text. text.items ≡ extract_text (option_map extract_of found.entry)) }
 {
-    let (kind, part) = match found {
-        None => return b"none\n".to_vec(alloc),
+    match found {
+        None => b"none\n".to_vec(alloc),
         Some(TestOutputErrorSlice::PanicMessage { stderr_subslice }) => {
-            ("panic-message", stderr_subslice)
+            part_text(alloc, "panic-message", stderr_subslice)
         }
-        Some(TestOutputErrorSlice::ErrorStr { stderr_subslice }) => ("error-str", stderr_subslice),
+        Some(TestOutputErrorSlice::ErrorStr { stderr_subslice }) => {
+            part_text(alloc, "error-str", stderr_subslice)
+        }
         Some(TestOutputErrorSlice::ShouldPanic { stdout_subslice }) => {
-            ("should-panic", stdout_subslice)
+            part_text(alloc, "should-panic", stdout_subslice)
         }
-    };
-    let heading = heading_of(alloc, kind, part.start, part.slice.len())?;
-    let mut text = Vec::new(alloc);
-    text.extend_from_slice(heading.as_bytes())?;
+    }
+}
+
+/// Returns the text for a part of output of this kind.
+fn part_text(alloc: Global, kind: &str, part: ByteSubslice<'_>) -> Result<Vec<u8>, AllocError>
+    ensures { IfOk result (λ text. text.items ≡ slice_text kind.now (slice_of part.entry)) }
+{
+    let mut text = heading_of(alloc, kind, part.start, part.slice.len())?.into_bytes();
     text.extend_from_slice(part.slice)?;
     text.push(b'\n')?;
     Ok(text)

@@ -4,7 +4,7 @@
 use crate::program_io::device::{Sink, Source};
 use crate::program_io::transfer::{read_all, write_all};
 use crate::run_digest_engine::fault::Fault;
-use deodarsieve::TestOutputErrorSlice;
+use deodarsieve::{ByteSubslice, TestOutputErrorSlice};
 use std::num::NonZero;
 
 /// The greatest number of bytes of a part that are written.
@@ -24,19 +24,23 @@ fn extracted(output: &[u8]) -> Option<TestOutputErrorSlice<'_>> {
 
 /// Returns the text for a part of output.
 fn text_of(found: Option<TestOutputErrorSlice<'_>>) -> Vec<u8> {
-    let (kind, part) = match found {
-        None => return b"none\n".to_vec(),
+    match found {
+        None => b"none\n".to_vec(),
         Some(TestOutputErrorSlice::PanicMessage { stderr_subslice }) => {
-            ("panic-message", stderr_subslice)
+            part_text("panic-message", stderr_subslice)
         }
-        Some(TestOutputErrorSlice::ErrorStr { stderr_subslice }) => ("error-str", stderr_subslice),
+        Some(TestOutputErrorSlice::ErrorStr { stderr_subslice }) => {
+            part_text("error-str", stderr_subslice)
+        }
         Some(TestOutputErrorSlice::ShouldPanic { stdout_subslice }) => {
-            ("should-panic", stdout_subslice)
+            part_text("should-panic", stdout_subslice)
         }
-    };
-    let heading = heading_of(kind, part.start, part.slice.len());
-    let mut text = Vec::new();
-    text.extend_from_slice(heading.as_bytes());
+    }
+}
+
+/// Returns the text for a part of output of this kind.
+fn part_text(kind: &str, part: ByteSubslice<'_>) -> Vec<u8> {
+    let mut text = heading_of(kind, part.start, part.slice.len()).into_bytes();
     text.extend_from_slice(part.slice);
     text.push(b'\n');
     text
