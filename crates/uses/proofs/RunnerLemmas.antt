@@ -1,5 +1,5 @@
 -- The statuses of attempts, and the finished units of events.
-use Rattle.std.proofs.Common.{◌≡◌, ◌+◌, ℕ, List, [], ◌∷◌, ◌++◌, length, map, ap, refl, sym, ◌∙◌}
+use Rattle.std.proofs.Common.{◌≡◌, ◌+◌, ◌<◌, ℕ, List, [], ◌∷◌, ◌++◌, length, map, ap, refl, sym, ◌∙◌, arith}
 use Rattle.std.proofs.lemmas.List.{append-nil, length_push, map_push}
 use Rattle.std.specs.Prelude.{Option, None, Some, option_to_list}
 use Rattle.run_events.specs.Attempts.{attempts_of, flaky_result_of, view_of}
@@ -22,6 +22,11 @@ pub view_added : {attempt : EndedAttempt} {number : RetryData} {old new : List (
     → view_of test ≡ view_of_attempts count attempt.outcome attempt.is_slow setting
 view_added test count setting added is counted set =
     simp is (rw (added.items, last_pushed _ added.status, length_push _ added.status, added.result, added.is_slow, counted, set) refl)
+
+-- a list to which a status was added is not empty
+pub added_some : {attempt : EndedAttempt} {number : RetryData} {old new : List (ExecuteStatus LiveSpec ChildOutputDescription)}
+    → AddsStatus attempt number old new → 0 < length new
+added_some added = rw (added.items, length_push _ added.status) (omega arith)
 
 -- the finished unit of one more event comes after those of the events before it
 pub lent_more : (lent : List FinishedUnit) (unit : FinishedUnit) (before all : List UnitView) (told : Option UnitView)

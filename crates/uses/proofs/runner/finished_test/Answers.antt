@@ -7,7 +7,7 @@ use Rattle.run_events_attempts.specs.declared.attempts.ExecuteStatus.{ExecuteSta
 use Rattle.run_events_attempts.specs.declared.attempts.RetryData.{RetryData}
 use Rattle.uses.specs.Runner.{numbered_of}
 use Rattle.uses.proofs.Lists.{last_pushed}
-use Rattle.uses.proofs.RunnerLemmas.{view_added}
+use Rattle.uses.proofs.RunnerLemmas.{added_some, view_added}
 use Rattle.uses.proofs.runner.finished_test.Goals as goal
 
 -- one more attempt, with the next number
@@ -38,6 +38,9 @@ loop-attempt-preserved c = record {
       (c.loop-attempt.attempt-index + 1)
       (c.loop-attempt.invariant.numbers few) (c.in_ok-push_status.ensures.retry_data ∙ c.loop-attempt.invariant.next few) refl);
 }
+
+pub new-requires : goal.new-requires
+new-requires c = search (rules, added_some c.in_ok-push_status-2.ensures)
 
 pub returns-clause-numbers : goal.returns-clause-numbers
 returns-clause-numbers c = λ few.
