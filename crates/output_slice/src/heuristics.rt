@@ -197,7 +197,6 @@ fn without_end(line: &[u8]) -> &[u8]
 }
 
 /// Returns the start of the line before `start` if that begins with `Error:`, or else `start`.
-#[tactic(auto, using(crate::proofs::OccursLemmas::reads))]
 fn widened(stderr: &[u8], start: usize) -> usize
     requires { start ≤ length stderr.now }
     ensures value { IsWidened stderr.now start result }

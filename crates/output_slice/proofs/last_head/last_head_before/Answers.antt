@@ -1,4 +1,4 @@
-use Rattle.std.proofs.Common.{Some, None}
+use Rattle.std.proofs.Common.{Some, None, rules}
 use Rattle.output_slice.proofs.CutLemmas.{last-within-front, opening-none}
 use Rattle.output_slice.proofs.TakenLemmas.{IsLastTaken-none}
 use Rattle.output_slice.proofs.last_head.last_head_before.Goals as goal
@@ -21,3 +21,6 @@ loop-at-preserved c = λ found last.
 
 pub returns : goal.returns
 returns c = c.loop-at.invariant None (IsLastTaken-none c.loop-at.rest.now (opening-none c.loop-at.rest.now c.in_default.ensures))
+
+pub last_from-requires : goal.last_from-requires
+last_from-requires c = search rules

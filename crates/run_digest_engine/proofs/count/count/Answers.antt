@@ -6,6 +6,9 @@ pub returns-in_err-text-clause-bad_line : goal.returns-in_err-text-clause-bad_li
 returns-in_err-text-clause-bad_line g c =
     named _ _ _ _ _ c.from_residual-in_err-text.ensures.1 c.in_ok-bytes.ensures.bytes c.as_slice.ensures.value c.in_err-text.ensures.refusal
 
+pub returns-in_err-text-clause-kept : goal.returns-in_err-text-clause-kept
+returns-in_err-text-clause-kept g c = search rules
+
 pub returns-in_err-write_all-clause-answer : goal.returns-in_err-write_all-clause-answer
 returns-in_err-write_all-clause-answer g c = search rules
 

@@ -38,3 +38,18 @@ pub returns-clause-only : goal.returns-clause-only
 returns-clause-only g c =
     written_alone _ _ _ _ _ _ _ c.in_ok-bytes.ensures.bytes c.as_slice.ensures.value c.in_ok-text.ensures.only
     (rw c.as_slice-2.ensures.value at c.in_ok-write_all.ensures.bytes)
+
+pub returns-in_err-text-clause-read : goal.returns-in_err-text-clause-read
+returns-in_err-text-clause-read g c = search rules
+
+pub returns-in_err-write_all-clause-read : goal.returns-in_err-write_all-clause-read
+returns-in_err-write_all-clause-read g c = search rules
+
+pub returns-in_err-write_all-clause-end : goal.returns-in_err-write_all-clause-end
+returns-in_err-write_all-clause-end g c = search rules
+
+pub returns-clause-read : goal.returns-clause-read
+returns-clause-read g c = search rules
+
+pub returns-clause-end : goal.returns-clause-end
+returns-clause-end g c = search rules

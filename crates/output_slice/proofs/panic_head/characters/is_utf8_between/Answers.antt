@@ -12,4 +12,4 @@ pub returns-in-None-clause-value : goal.returns-in-None-clause-value
 returns-in-None-clause-value g c =
     let none = rw c.loop-at.invariant.0 at c.in-None.ensures.value in
     let first = char-utf8 _ c.loop-at.at c.args.to c.loop-at-test.true c.requires.high in
-    grind arith
+    (λ no. absurd (cc no), λ text. let found = first (c.loop-at.invariant.4.0 text) in absurd (none found.0 found.1))

@@ -6,6 +6,9 @@ use Rattle.output_slice.proofs.subslice.TestOutputErrorSlice.heuristic_extract.G
 pub note_slice-requires : goal.note_slice-requires
 note_slice-requires c = note-quiet c.args.stdout _ _ _ c.unwrap_or.ensures c.quiet_ends-quiet.ensures.note
 
+pub returns-in_default-clause-value : goal.returns-in_default-clause-value
+returns-in_default-clause-value c = rw c.in_default.is c.note_slice.ensures
+
 pub returns-in_default-clause-only : goal.returns-in_default-clause-only
 returns-in_default-clause-only c = rw c.in_default.is λ found is. IsExtract-same _ None found _ is c.note_slice.ensures
 
