@@ -1,169 +1,127 @@
-"""Gives types and functions the attributes that they have in Rust: derives, `non_exhaustive`, `must_use`."""
+"""Gives types and functions the attributes that they have in Rust: derives, `serde`, `non_exhaustive`, `must_use`."""
 from . import serde_table as serde
 from . import type_table as types
 from .functions import functions_of
 from .scanner import Refused, Source
 from .table import LAYER, PACKAGE_OF
 
+# The types that have a row in a table.
+NAMED = (
+    *serde.SERDE, *serde.SERDE_OF_VARIANTS, *types.ADDED_DERIVES, *types.REMOVED_DERIVES, *types.NON_EXHAUSTIVE,
+    *types.CRATE_FIELDS, *types.MUST_USE,
+)
 ORDER = ("Clone", "Copy", "Debug", "Default", "PartialEq", "Eq", "PartialOrd", "Ord", "Hash")
 
 
-def with_attributes(text, name):
-    """Returns the text of the file `name` with the attributes of its types and functions."""
+def with_derives(text, name):
+    """Returns the text of the file `name` with the derives, `non_exhaustive` and `must_use` of its types."""
     source = Source(text, name)
-    crate = name.split("/")[0]
-    is_layer = PACKAGE_OF[crate] == LAYER
-    for i in source.code:
-        if source.text[i] in ("struct", "enum") and source.is_name(source.after(i)):
-            _on_type(source, i, crate)
-    if is_layer:
-        for function in functions_of(source):
-            _on_function(source, function)
+    for i, first in _types(source):
+        old = source.before(first)
+        is_derive = source.at(old) == "]" and source.at(source.after(source.partner[old])) == "derive"
+        words = source.words(source.partner[old], old) if is_derive else []
+        lines = _attributes(source, i, first, [word for word in words[3:-1] if word != ","])
+        if is_derive:
+            source.drop_line(source.before(source.partner[old]), old)
+        source.new[first] = "".join(f"{line}\n" for line in lines) + source.new[first]
     return source.result()
 
 
-def refuse_unused_rows(texts, rows=(*serde.SERDE, *serde.SERDE_OF_VARIANTS)):
-    """Refuses a row of `serde` for a type that no file of the layer declares. `texts` are the erased texts."""
-    declared = set()
-    for name, text in texts.items():
-        source = Source(text, name)
-        if PACKAGE_OF[name.split("/")[0]] == LAYER:
-            declared |= {source.at(source.after(i)) for i in source.code if source.text[i] in ("struct", "enum")}
-    for row in rows:
-        if row not in declared:
-            raise Refused(f"the table of serde has a row for a type that is not there: {row}")
+def _types(source):
+    """Yields the `struct` or `enum` and the first token of each declaration of a type."""
+    for i in source.code:
+        if source.text[i] in ("struct", "enum") and source.is_name(source.after(i)):
+            yield i, source.first_of_item(i)
 
 
-def _on_type(source, i, crate):
-    """Gives the type of this crate that is declared at `i` its derives."""
-    is_layer = PACKAGE_OF[crate] == LAYER
-    name = source.at(source.after(i))
-    first = source.first_of_item(i)
-    derive, words = _derive(source, first)
-    of_all = types.DERIVES_OF_ALL.get(crate, ())
-    if not set(words).isdisjoint(of_all):
-        source.refuse(i, f"the eraser derives {', '.join(of_all)} for all types of this crate")
-    has_drop = "Drop" in words
-    words = [word for word in words if word != "Drop" and word not in types.REMOVED_DERIVES.get(name, ())]
-    words += [word for word in (*of_all, *types.ADDED_DERIVES.get(name, ())) if word not in words]
-    if has_drop and not _is_generic(source, i) and name not in types.NO_CLONE and "Clone" not in words:
-        words.append("Clone")
-    if _gets_debug(source, i, first, crate) and "Debug" not in words:
-        words.append("Debug")
-    if name in types.NO_DEBUG:
-        words.remove("Debug")
-    _set_derive(source, first, derive, words, name)
-    if is_layer:
-        _set_serde(source, i, first, name)
-    if name in types.CRATE_FIELDS:
-        _open_fields(source, i)
+def _is_of_layer(source):
+    """Returns true if a file is of the layer."""
+    return PACKAGE_OF[source.name.split("/")[0]] == LAYER
 
 
-def _gets_debug(source, i, first, crate):
-    """Returns true for the public types of the layer that need no text of their own."""
-    is_public = source.at(first) == "pub" and source.at(source.after(first)) != "("
-    is_by_hand = _implements(source, "Debug", source.at(source.after(i)))
-    return PACKAGE_OF[crate] == LAYER and is_public and not _is_generic(source, i) and not is_by_hand
-
-
-def _derive(source, first):
-    """Returns the bracket of the `derive` above a declaration, or None, and its words."""
-    at = source.before(first)
-    while source.at(at) == "]":
-        opening = source.partner[at]
-        if source.at(source.after(opening)) == "derive":
-            group = source.after(opening, 2)
-            return opening, [word for word in source.words(group, source.partner[group])[1:] if word != ","]
-        at = source.before(opening, 2)
-    return None, []
+def _attributes(source, i, first, derived):
+    """Returns the attributes of the type that is declared at `i`, which derives `derived` in the sources."""
+    name, of_all = source.at(source.after(i)), types.DERIVES_OF_ALL.get(source.name.split("/")[0], ())
+    words = {*derived, *of_all, *types.ADDED_DERIVES.get(name, ())}
+    if not _is_generic(source, i):
+        words.add("Clone")
+        is_public = source.reads(first, "pub") and not source.reads(source.after(first), "(")
+        is_by_hand = any(source.reads(k, "Debug", "for", name) for k in source.code)
+        if _is_of_layer(source) and is_public and not is_by_hand:
+            words.add("Debug")
+    words -= {"Drop", *types.REMOVED_DERIVES.get(name, ())}
+    lines = [f"#[derive({', '.join(sorted(words, key=ORDER.index))})]"] if words else []
+    lines += [types.NON_EXHAUSTIVE[name]] if name in types.NON_EXHAUSTIVE else []
+    return lines + (["#[must_use]"] if name in types.MUST_USE else [])
 
 
 def _is_generic(source, i):
     """Returns true if the type that is declared at `i` has a type parameter."""
     angle = source.after(i, 2)
-    if source.at(angle) != "<":
-        return False
-    inner = source.between(source.after(angle), source.closing_angle(angle))
+    inner = source.between(angle, source.closing_angle(angle)) if source.at(angle) == "<" else []
     return any(source.kind[k] == "name" for k in inner)
 
 
-def _implements(source, trait, name):
-    """Returns true if the file implements the trait for the type by hand."""
-    for i in source.code:
-        if source.text[i] == trait and source.reads(source.after(i), "for", name):
-            return True
-    return False
+def with_serde(text, name):
+    """Returns the text of the file `name` with the attributes of `serde`, if it is of the layer."""
+    source = Source(text, name)
+    if not _is_of_layer(source):
+        return text
+    for i, first in _types(source):
+        declared = source.at(source.after(i))
+        if declared in serde.SERDE:
+            source.new[first] = f"{serde.attribute_of(declared)}\n{source.new[first]}"
+        for member, attribute in serde.SERDE_OF_VARIANTS.get(declared, {}).items():
+            found = [k for k in _members(source, i) if source.text[k] == member]
+            if not found:
+                source.refuse(i, f"the table names a variant that is not there: {member}")
+            source.new[found[0]] = f"{attribute}\n{member}"
+    return source.result()
 
 
-def _set_derive(source, first, derive, words, name):
-    """Writes the derives and the other attributes of a type."""
-    ordered = sorted(words, key=ORDER.index)
-    line = f"#[derive({', '.join(ordered)})]" if ordered else ""
-    if name in types.NON_EXHAUSTIVE:
-        line += "\n" + types.NON_EXHAUSTIVE[name]
-    if name in types.MUST_USE:
-        line += "\n#[must_use]"
-    if derive is not None:
-        hash_token, end = source.before(derive), source.partner[derive]
-        if line:
-            source.replace(hash_token, end, line)
-        else:
-            source.drop_line(hash_token, end)
-    elif line:
-        source.new[first] = line.strip() + "\n" + source.new[first]
+def refuse_unused_rows(texts, rows=NAMED):
+    """Refuses a row of a table for a type that no file declares. `texts` are the erased texts."""
+    sources = [Source(text, name) for name, text in texts.items()]
+    declared = {source.at(source.after(i)) for source in sources for i, _ in _types(source)}
+    for row in rows:
+        if row not in declared:
+            raise Refused(f"a table has a row for a type that is not there: {row}")
 
 
-def _set_serde(source, i, first, name):
-    """Gives the type that is declared at `i`, and its variants, the attributes of `serde`."""
-    attribute = serde.attribute_of(name)
-    if attribute:
-        source.new[first] = f"{attribute}\n{source.new[first]}"
-    for variant, row in serde.SERDE_OF_VARIANTS.get(name, {}).items():
-        at = next((k for k in _variants(source, i) if source.text[k] == variant), None)
-        if at is None:
-            source.refuse(i, f"the table names a variant that is not there: {variant}")
-        source.new[at] = f'#[cfg_attr(feature = "serde", serde({row}))]\n{source.new[at]}'
-
-
-def _variants(source, i):
-    """Yields the names of the variants of the enum that is declared at `i`."""
+def _members(source, i):
+    """Yields the names of the variants or fields of the type that is declared at `i`."""
     brace = source.find(i, "{")
-    at = source.after(brace)
-    while at != source.partner[brace]:
+    at, close = source.after(brace), source.partner[brace]
+    while at != close:
         while source.at(at) == "#":
             at = source.after(source.partner[source.after(at)])
         yield at
-        end = source.find_in(at, source.partner[brace], ",")
-        at = source.after(end) if source.at(end) == "," else end
+        end = source.find_in(at, close, ",")
+        at = source.after(end) if end != close else close
 
 
-def _open_fields(source, i):
-    """Makes the private fields of a struct visible to the files that are written by hand."""
-    brace = source.find(i, "{")
-    at = source.after(brace)
-    while at != source.partner[brace]:
-        while source.at(at) == "#":
-            at = source.after(source.partner[source.after(at)])
-        if source.is_name(at) and source.at(source.after(at)) == ":":
-            source.new[at] = "pub(crate) " + source.new[at]
-        end = source.find_in(at, source.partner[brace], ",")
-        at = source.after(end) if source.at(end) == "," else end
+def with_open_fields(text, name):
+    """Returns the text of the file `name` with the private fields of some types visible to files that are by hand."""
+    source = Source(text, name)
+    opened = [i for i, _ in _types(source) if source.at(source.after(i)) in types.CRATE_FIELDS]
+    for field in [field for i in opened for field in _members(source, i)]:
+        if source.text[field] != "pub":
+            source.new[field] = "pub(crate) " + source.new[field]
+    return source.result()
 
 
-def _on_function(source, function):
-    """Gives `must_use` to a public function that only returns a value."""
-    words = function.type_words()
-    if not function.is_public or function.is_of_trait or not words:
-        return
-    returned = function.owner if words[0] == "Self" else words[0]
-    is_used = returned in types.MUST_USE_BY_THEMSELVES + types.MUST_USE
-    if is_used or _borrows_mutably(function.parameter_words()):
-        return
-    if source.at(source.before(function.first)) == "]":
-        opening = source.partner[source.before(function.first)]
-        if source.at(source.after(opening)) == "must_use":
-            return
-    source.new[function.first] = "#[must_use]\n" + source.new[function.first]
+def with_must_use(text, name):
+    """Returns the text of the file `name` with `must_use` on each public function that only returns a value."""
+    source = Source(text, name)
+    for function in functions_of(source):
+        words = function.type_words()
+        if not (_is_of_layer(source) and function.is_public and words) or function.is_of_trait:
+            continue
+        returned = function.owner if words[0] == "Self" else words[0]
+        is_used = returned in types.MUST_USE_BY_THEMSELVES + types.MUST_USE
+        if not is_used and not _borrows_mutably(function.parameter_words()):
+            source.new[function.first] = "#[must_use]\n" + source.new[function.first]
+    return source.result()
 
 
 def _borrows_mutably(words):

@@ -1,107 +1,63 @@
 """Gives doc comments the paths, the examples and the sections that they have in Rust."""
 import re
-from pathlib import Path
 
+from .entries import entries
 from .functions import functions_of
 from .scanner import Source
-from .table import ERRORS, ITEMS_WITH_EXAMPLES, LAYER, PACKAGE_OF, PATH_OF, PUBLISHED, WORDS_OF_PROOFS
+from .table import ERRORS, LAYER, PACKAGE_OF, PATH_OF, WORDS_OF_PROOFS
 
-EXAMPLES = Path(__file__).resolve().parent / "examples"
 DOCS = ("///", "//!")
 
 
-def with_documentation(text, name):
-    """Returns the text of the file `name` with its doc comments as Rust has them."""
-    source = Source(text, name)
-    lines = [i for i, kind in enumerate(source.kind) if kind == "comment" and source.text[i].startswith(DOCS)]
+def _lines(source):
+    """Returns the lines of doc comments."""
+    return [i for i, kind in enumerate(source.kind) if kind == "comment" and source.text[i].startswith(DOCS)]
+
+
+def with_links(text, name):
+    """Returns the text of the file `name`, whose doc comments link to the modules of its package."""
     path = "::".join(["crate", *PATH_OF[name.split("/")[0]], ""])
-    for i in lines:
-        source.new[i] = re.sub(r"\bcrate::", path, source.text[i])
-    _examples(source, lines)
-    _errors(source, lines)
-    package = PACKAGE_OF[name.split("/")[0]]
-    if package == LAYER:
-        _refuse_silent_errors(source)
-    _drop_comments(source)
-    if package in PUBLISHED:
-        _refuse_words(source, lines)
+    return re.sub(r"^ *//[/!].*", lambda line: re.sub(r"\bcrate::", path, line[0]), text, flags=re.M)
+
+
+def without_examples(text, name):
+    """Returns the text of the file `name` without the example in Rattle, and without the paragraph before it."""
+    source = Source(text, name)
+    lines = _lines(source)
+    fences = [i for i in lines if source.text[i][3:].startswith(" ```")]
+    if fences:
+        blanks = [i for i in lines if i < fences[0] and len(source.text[i]) == 3]
+        if len(fences) != 2 or len(blanks) < 2:
+            source.refuse(fences[0], "an example that is not after two paragraphs")
+        source.drop_line(blanks[-2], fences[1])
     return source.result()
 
 
-def _examples(source, lines):
-    """Puts an example that is written by hand in place of each one of the sources, in the layer at an item."""
-    _example_of_item(source, lines)
-    fences = [i for i in lines if source.text[i][3:].strip().startswith("```")]
-    if not fences:
-        return
-    crate = source.name.split("/")[0]
-    path = EXAMPLES / f"{crate}.rs"
-    in_layer = PACKAGE_OF[crate] == LAYER
-    if len(fences) != 2 or not (in_layer or path.exists()) or not source.name.endswith("/src/lib.rt"):
-        source.refuse(fences[0], f"an example, for which there is no file {path.name}")
-    if in_layer:
-        blanks = [i for i in lines if i < fences[0] and len(source.text[i]) == 3]
-        source.drop_line(blanks[-2], fences[1])
-        return
-    source.replace(fences[0], fences[1], _example(path, source.text[fences[0]][:3]))
-
-
-def _example_of_item(source, lines):
-    """Puts an example at the end of the documentation of its item, if that is in this file."""
-    for example, (name, words) in ITEMS_WITH_EXAMPLES.items():
-        if name == source.name:
+def with_examples(text, name, examples=entries("examples.txt")):
+    """Returns the text of the file `name` with the examples of the table, each after its item's documentation."""
+    source = Source(text, name)
+    for file, words, code in ((*head.split(" | "), code) for head, code in examples):
+        if file == name:
             item = next(i for i in source.code if source.reads(i, *words.split()))
-            last = max(i for i in lines if i < item)
-            source.new[last] += "\n///\n" + _example(EXAMPLES / f"{example}.rs", "///")
+            last = max(i for i in _lines(source) if i < item)
+            source.new[last] += "".join(f"\n/// {line}".rstrip() for line in ("", "```", *code.splitlines(), "```"))
+    return source.result()
 
 
-def _example(path, mark):
-    """Returns an example as lines of documentation that begin with `mark`."""
-    code = path.read_text(encoding="utf-8").splitlines()
-    return "\n".join(f"{mark} {line}".rstrip() for line in ("```", *code, "```"))
+def with_errors(text, name):
+    """Returns the text of the file `name` with the section `Errors`: the paragraphs that say when errors come."""
+    source = Source(text, name)
+    for i in _lines(source):
+        if source.text[i][3:].strip().startswith(ERRORS):
+            source.new[i] = f"/// # Errors\n///\n{source.text[i]}"
+    return source.result()
 
 
-def _errors(source, lines):
-    """Makes the paragraphs that say when errors come the section `Errors`."""
-    for i in lines:
-        if source.new[i][3:].strip().startswith(ERRORS):
-            mark = source.text[i][:3]
-            source.new[i] = f"{mark} # Errors\n{mark}\n{source.new[i]}"
-
-
-def _refuse_silent_errors(source):
-    """Refuses a public function that returns a Result and does not say when it is an error."""
-    for function in functions_of(source):
-        if not function.is_public or function.type_words()[:1] != ["Result"]:
-            continue
-        start = source.item_start(function.first)
-        if not any("# Errors" in source.new[i] for i in range(start, function.first)):
-            source.refuse(function.fn_token, f"`{function.path}` does not say when it returns an error")
-
-
-def _drop_comments(source):
-    """Drops the comments, other than doc comments, that speak of contracts, proofs or refusals of memory."""
-    for paragraph in _paragraphs(source):
-        if re.search(WORDS_OF_PROOFS, " ".join(source.text[i] for i in paragraph)):
-            source.drop_line(paragraph[0], paragraph[-1])
-
-
-def _paragraphs(source):
-    """Returns the comments that are no doc comments, those of lines in a row as one list."""
-    paragraphs = []
-    for i, kind in enumerate(source.kind):
-        if kind != "comment" or source.text[i].startswith(DOCS):
-            continue
-        if paragraphs and paragraphs[-1][-1] == i - 2 and source.text[i - 1].count("\n") == 1:
-            paragraphs[-1].append(i)
-        else:
-            paragraphs.append([i])
-    return paragraphs
-
-
-def _refuse_words(source, lines):
-    """Refuses a doc comment that speaks of contracts, proofs or refusals of memory."""
-    for i in lines:
-        found = None if source.is_dropped[i] else re.search(WORDS_OF_PROOFS, source.text[i])
+def refuse_words_of_proofs(text, name):
+    """Returns the text of the file `name`. Refuses a doc comment that speaks of contracts, proofs or memory."""
+    source = Source(text, name)
+    for i in _lines(source):
+        found = re.search(WORDS_OF_PROOFS, source.text[i])
         if found:
             source.refuse(i, f"a doc comment with `{found.group()}`")
+    return text

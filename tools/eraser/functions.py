@@ -61,7 +61,6 @@ class Function:
             at = source.skip(at)
         if source.at(at) == "{":
             self.body = (at, source.partner[at])
-        self.last = source.partner[at] if self.body else at
 
     @property
     def is_public(self):

@@ -1,101 +1,112 @@
-"""Puts the paths of the packages in rust/ in place of the paths of crates/."""
+"""Puts the paths of the packages in rust/ in place of those of crates/, and drops imports that nothing reads."""
+import re
+
 from . import table
-from .imports import Imports
 from .scanner import Source
 
-ITEMS = ("struct", "enum", "trait", "fn", "const", "static", "type")
+
+def with_paths(text, name):
+    """Returns the text of the file `name` with the paths of its package, without imports that nothing reads."""
+    source, paths = Source(text, name), Paths(name)
+    imports = [(i, source.find(i, ";")) for i in source.code if source.text[i] == "use"]
+    in_imports = {k for first, end in imports for k in source.between(first, end)}
+    others = [i for i in source.code if i not in in_imports]
+    used = _used_names(source, others)
+    for first, end in imports:
+        _edit_import(source, first, end, used, paths)
+    for i in others:
+        if source.is_name(i) and source.at(source.before(i)) not in ("::", ".") and source.at(source.after(i)) == "::":
+            last = i
+            while source.at(source.after(last)) == "::" and source.is_name(source.after(last, 2)):
+                last = source.after(last, 2)
+            words = [word for word in source.words(i, last) if word != "::"] + [source.text[last]]
+            if paths.moved(words) != words:
+                source.replace(i, last, "::".join(paths.moved(words)))
+    return source.result()
 
 
-def public_names(texts):
-    """Returns the names of all public items of the layer, and refuses a name that two of them have."""
-    names = {name: "a file written by hand" for name in table.NAMES_BY_HAND}
-    for name, text in texts.items():
-        if table.PACKAGE_OF[name.split("/")[0]] != table.LAYER:
-            continue
-        source = Source(text, name)
-        for i, item in _public_items(source):
-            if item in names:
-                source.refuse(i, f"`{item}` is also in {names[item]}")
-            names[item] = name
+def _used_names(source, code):
+    """Returns all names in the code outside of imports, those in format strings among them."""
+    names = {source.text[i] for i in code}
+    for i in code:
+        if source.kind[i] == "string":
+            names.update(re.findall(r"\{(\w+)", source.text[i]))
     return names
 
 
-def _public_items(source):
-    """Returns the places and the names of the public items of a file, without those in blocks."""
-    items, i = [], source.code[0] if source.code else None
-    while i is not None:
-        if source.text[i] == "pub" and source.at(source.after(i)) in ITEMS:
-            items.append((i, source.at(source.after(i, 2))))
-        i = source.skip(i)
-    return items
+def _edit_import(source, first, end, used, paths):
+    """Edits the `use` from `first` to `end`."""
+    is_public = source.at(source.before(first)) in ("pub", ")")
+    head = source.at(source.after(first))
+    if is_public and head in table.PACKAGE_OF and source.name.endswith("/src/lib.rt"):
+        source.drop_line(source.before(first), end)  # an export of another crate: in Rust the package's root has it
+        return
+    groups = {}
+    for leaf in _leaves(source, first, end):
+        path = table.IMPORTS.get("::".join(leaf), leaf)
+        if path and (is_public or path[-1] in used or path[-1] in table.TRAITS):
+            *folder, last = paths.moved(list(path))
+            groups.setdefault("::".join(folder), []).append(last)
+    lines = [_use_line(folder, names) for folder, names in groups.items()]
+    if lines:
+        source.replace(first, end, "\n".join(lines))
+    else:
+        source.drop_line(first, end)
 
 
-def with_package_paths(text, name, layer_names):
-    """Returns the text of the file `name` with the paths of its package."""
-    source = Source(text, name)
-    paths = Paths(source, layer_names)
-    in_imports = Imports(source, paths).run()
-    for i in source.code:
-        if i not in in_imports and source.is_name(i) and source.at(source.before(i)) not in ("::", "."):
-            paths.edit(i)
-    return source.result()
+def _leaves(source, first, end):
+    """Returns the paths that the `use` from `first` to `end` imports, as lists of words."""
+    words = [word for word in source.words(source.after(first), end) if word != "::"]
+    if "as" in words or "*" in words or words.count("{") > 1:
+        source.refuse(first, "a `use` of an unknown form")
+    if "{" not in words:
+        return [words]
+    at = words.index("{")
+    return [words[:at] + [name] for name in words[at + 1:-1] if name != ","]
+
+
+def _use_line(folder, names):
+    """Returns a `use` of names under a path."""
+    path = names[0] if len(names) == 1 else f"{{{', '.join(names)}}}"
+    return f"use {folder}::{path};" if folder else f"use {path};"
 
 
 class Paths:
     """Where the modules and the names of crates/ are in the packages, seen from one file."""
 
-    def __init__(self, source, layer_names):
-        """`layer_names` are the public names of the layer."""
-        self.source, self.layer_names = source, layer_names
-        self.crate = source.name.split("/")[0]
+    def __init__(self, name):
+        """`name` is that of the file."""
+        self.crate = name.split("/")[0]
         self.package = table.PACKAGE_OF[self.crate]
 
-    def edit(self, i):
-        """Edits the path in the middle of code that begins at `i`, if it begins with a crate."""
-        source = self.source
-        is_crate = source.text[i] in ("crate", "std") or source.text[i] in table.PACKAGE_OF
-        if not is_crate or source.at(source.after(i)) != "::":
-            return
-        last, words = i, [source.text[i]]
-        while source.at(source.after(last)) == "::" and source.is_name(source.after(last, 2)):
-            last = source.after(last, 2)
-            words.append(source.text[last])
-        source.replace(i, last, "::".join(self.moved(words, i)))
-
-    def moved(self, words, i):
-        """Returns the words of the path at `i` as the package has it."""
-        path = self._from_root(words, i)
+    def moved(self, words):
+        """Returns the words of a path as the package has it."""
+        path = self._from_root(words)
         renamed = table.RENAMED_PATHS.get("::".join(path))
         return renamed.split("::") if renamed else path
 
-    def _from_root(self, words, i):
-        """Returns the words of a path, from the package's root or from that of another package."""
+    def _from_root(self, words):
+        """Returns the words of a path, from the package's root or from that of the layer."""
         head, rest = words[0], words[1:]
-        if head == "crate":
-            return ["crate", *table.PATH_OF[self.crate], *rest]
-        if head == "std":
-            return [self._std(rest[0]), *rest]
-        if head not in table.PACKAGE_OF:
+        package = table.PACKAGE_OF.get(self.crate if head == "crate" else head)
+        if head == "std" and self.package == table.LAYER:
+            return ["alloc" if rest[0] in table.ALLOC_MODULES else "core", *rest]
+        if package is None:
             return words
-        if table.PACKAGE_OF[head] == self.package:
-            return ["crate", *table.PATH_OF[head], *rest]
-        if table.PACKAGE_OF[head] != table.LAYER:
-            return [table.PACKAGE_OF[head].replace("-", "_"), *words]
-        return self._in_layer(words, i)
+        if package == self.package:
+            return ["crate", *table.PATH_OF[self.crate if head == "crate" else head], *rest]
+        # All names of the layer are in its root. Their paths begin with modules, which have small letters.
+        at = next((at for at, word in enumerate(words) if word[0].isupper()), len(words) - 1)
+        return [table.LAYER, *(["counted"] if words[at] in table.COUNTED else []), *words[at:]]
 
-    def _std(self, module):
-        """Returns the crate that has a module of `std`: the layer does without `std`."""
-        if self.package != table.LAYER:
-            return "std"
-        return "alloc" if module in table.ALLOC_MODULES else "core"
 
-    def _in_layer(self, words, i):
-        """Returns the words of a path into the layer from another package: all names are in its root."""
-        for at, word in enumerate(words):
-            if word in words[at + 1:]:
-                continue
-            if word in table.COUNTED:
-                return [table.LAYER, "counted", *words[at:]]
-            if word in self.layer_names:
-                return [table.LAYER, *words[at:]]
-        return self.source.refuse(i, f"`{'::'.join(words)}` has no name of the layer")
+def with_imports_of_alloc(text, name):
+    """Returns the text of the file `name`, which in the layer imports what only the prelude of `std` has."""
+    source = Source(text, name)
+    names = [i for i in source.code if source.at(source.before(i)) != "::"]
+    read = {source.text[i] + ("!" if source.at(source.after(i)) == "!" else "") for i in names}
+    lines = [f"use {path};\n" for key, path in table.ALLOC_NAMES.items() if key in read]
+    if lines and table.PACKAGE_OF[name.split("/")[0]] == table.LAYER:
+        first = source.item_start(source.code[0])
+        source.new[first] = "".join(lines) + ("" if source.reads(first, "use") else "\n") + source.new[first]
+    return source.result()

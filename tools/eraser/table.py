@@ -21,54 +21,32 @@ PACKAGE_OF = {crate: package for package, crates in PACKAGES.items() for crate i
 
 # The path of a crate's modules in its package.
 PATH_OF = {crate: ["exports" if crate == "deodarsieve" else crate] for crate in PACKAGE_OF}
-PATH_OF |= {"test_report_events": ["events"], "test_report_run_notes": ["notes"], "test_report_run": ["run"], "test_report_programs": ["programs"]}
-
-# The packages that are published.
-PUBLISHED = (LAYER, RUN, "deodarsieve-cli", "deodarsieve-c")
+PATH_OF |= {
+    "test_report_events": ["events"],
+    "test_report_run_notes": ["notes"],
+    "test_report_run": ["run"],
+    "test_report_programs": ["programs"],
+}
 
 # Files that are written by hand in the package.
 BY_HAND = ("run_events_attempts/src/moment.rt",)
 
-# Modules that plain Rust does not have: laws, which are for proofs, the callers that the pages CALLING.md show, which
-# are examples of contracts, and the text that notes that memory ran out, which is a String.
-NOT_IN_PLAIN_RUST = ("laws", "callers", "noted_text")
-
-# The examples of the layer, each with the file and the first words of the item that shows it: the modules of the layer
-# are private, so their pages are not shown.
-ITEMS_WITH_EXAMPLES = {
-    "output_slice": ("output_slice/src/heuristics.rt", "pub fn heuristic_extract"),
-    "unit_error": ("run_events/src/unit_error.rt", "pub struct UnitErrorDescription"),
-    "statuses": ("run_events_attempts/src/attempts/statuses.rt", "pub struct ExecutionStatuses"),
-    "chain": ("run_events_attempts/src/chain.rt", "pub struct SerializableError"),
-    "levels": ("run_events_results/src/levels.rt", "pub struct StatusLevels"),
-    "test_view": ("run_events_results/src/view.rt", "pub fn new"),
-    "results": ("run_events_results/src/results.rt", "pub enum ExecutionResult"),
-    "config": ("run_events_results/src/config.rt", "pub enum TestOutputDisplay"),
-    "summary": ("run_events_stats/src/outcome.rt", "pub fn is_success"),
-    "run_outcome": ("run_events_stats/src/outcome/run_outcome.rt", "pub enum RunOutcome"),
-    "progress": ("run_events/src/progress.rt", "pub enum StressProgress"),
-}
-
-ATTRIBUTES = ("inline", "default", "derive", "test", "cfg", "repr", "unsafe")
-MACROS = (
-    "write", "writeln", "format", "vec", "matches", "unreachable", "assert", "assert_eq", "println",
-)
-HANDLES = ("AllocGlobal", "Input", "Print", "Abort")
+# Modules that plain Rust does not have: laws, which are for proofs, and the text that notes that memory ran out, which
+# is a String.
+NOT_IN_PLAIN_RUST = ("laws", "noted_text")
 
 # Calls of std and of other crates that return a Result in Rattle, and a plain value in Rust.
 PLAIN_CALLS = (
     "append", "entry", "push", "push_back", "push_str", "insert", "replace", "split_off", "extend_from_slice", "to_vec",
-    "to_string", "String::from_str", "String::from_utf8_lossy", "reserve_exact", "Vec::with_capacity", "Vec::from_slice",
-    "Box::new", "Rc::new", "Bytes::copy_from_slice", "BufReader::new", "hex::encode", "Value::try_from_str",
+    "to_string", "String::from_str", "String::from_utf8_lossy", "reserve_exact", "Vec::with_capacity", "Box::new",
+    "Rc::new", "Value::try_from_str",
 )
 
 # Calls that have another name in Rust. `(..)` is the place of the arguments.
 RENAMED_CALLS = {
     "String::from_str": "String::from",
     "String::from_utf8_lossy": "String::from_utf8_lossy(..).into_owned()",
-    "Vec::from_slice": "Vec::from",
     "Value::try_from_str": "Value::from",
-    "Value::from_slice": "serde_json::from_slice::<Value>",
     "Value::from_str": "serde_json::from_str::<Value>",
 }
 
@@ -77,10 +55,8 @@ EMPTY_STATEMENTS = ("destroy_empty",)
 
 # What an import of Rattle is in Rust: another path, or nothing.
 IMPORTS = {
-    "std::alloc::Global": None,
-    "std::process::Abort": None,
+    "crate::noted_text::NotedText": None,
     "unicode::properties::GeneralCategory": ("output_slice", "is_decimal_digit"),
-    "jiff::Timestamp": ("run_events", "config", "Moment"),
 }
 
 # Paths that are others in the packages.
@@ -90,24 +66,11 @@ RENAMED_PATHS = {
     "crate::run_events_attempts::KeptText": "crate::std_impls::KeptText",
 }
 
-# Names of the layer that are written by hand.
-NAMES_BY_HAND = ("Moment", "is_decimal_digit")
+# Names of types that are another one in Rust.
+RENAMED_TYPES = {"NotedText": "String"}
 
-# Names of imports that are another text in Rust.
-NAMES_OF_IMPORTS = {"std::test::Fail": "Box<dyn std::error::Error>", "crate::noted_text::NotedText": "String"}
-
-# Traits, whose methods are called without their names. An import stays if one of them is called. Where two
-# traits have the method, the name of the value is before a dot.
-TRAITS = {
-    "BufRead": ("lines",),
-    "ByteSlice": (
-        "as_bstr", "contains_str", "find", "find_byte", "lines", "rfind", "rfind_byte", "rfind_not_byteset",
-        "starts_with_str", "trim_end_with",
-    ),
-    "ByteSource": ("byte", "reads"),
-    "Sink": ("write", "flush", "sink.has_failed"),
-    "Source": ("read", "source.has_failed"),
-}
+# Traits whose methods are called without their names. Their imports stay.
+TRAITS = ("ByteSlice", "ByteSource", "Sink", "Source")
 
 # Modules of std that are in alloc, and names of its prelude that are in alloc.
 ALLOC_MODULES = ("collections", "vec")
@@ -121,8 +84,7 @@ ALLOC_NAMES = {
 # Names of the layer that are in its hidden module `counted`.
 COUNTED = ("ByteSource", "CountedBytes", "HeadSpan", "is_decimal_digit", "first_head", "last_head", "last_panic_head")
 
-# Words of contracts, proofs and refusals of memory. A doc comment of a published package with one is refused,
-# and any other comment with one is dropped.
+# Words of contracts, proofs and refusals of memory, which no doc comment has.
 WORDS_OF_PROOFS = (
     r"\b([Cc]ontracts?|[Cc]lauses?|[Pp]rove[ds]?|[Pp]rover|[Pp]roofs?|[Ll]emmas?|[Ll]aws?|[Aa]llocat\w+)\b"
     r"|[Mm]emory (is|was|for)\b|[Tt]akes? (no )?memory|enough memory|memory of\b"

@@ -7,57 +7,35 @@ EQUAL = ("PartialEq", "Eq")
 DERIVES_OF_ALL = dict.fromkeys(PACKAGES[RUN], ("Debug",)) | {"c_values": ("Debug", "Default") + EQUAL}
 
 # Derives that a type has in Rust in addition to those of its source: users compare these, or keep them in maps.
-KEY = ("PartialEq", "Eq", "PartialOrd", "Ord", "Hash")
-ADDED_DERIVES = {
-    "ByteSubslice": EQUAL,
-    "ChildError": EQUAL,
-    "ChildExecutionOutput": EQUAL,
-    "ChildFdError": EQUAL,
-    "ChildOutput": EQUAL,
-    "ChildOutputDescription": EQUAL,
-    "ChildSplitOutput": EQUAL,
-    "ChildStartError": EQUAL,
-    "ErrorList": ("Clone", "Debug") + EQUAL,
-    "JunitFlakyFailStatus": KEY,
-    "MismatchReason": KEY,
-    "OwnedTestInstanceId": KEY,
-    "ReportSkipPolicy": KEY,
-    "RunStart": EQUAL,
-    "ScriptId": KEY,
-    "StatusLevels": EQUAL,
-    "StressCondition": EQUAL,
-    "TestGroup": KEY,
-    "TestInstanceId": KEY,
-    "TestList": EQUAL,
-    "TestOutputErrorSlice": EQUAL,
-    "TestsNotSeen": EQUAL,
-    "UnitAbortDescription": EQUAL,
-    "UnitTerminateMethod": EQUAL,
-    "UnitTerminateReason": EQUAL,
-    "OpenSuites": ("Clone",),
-    "Suite": ("Clone",),
-    "CargoFailure": EQUAL,
-    "Event": EQUAL,
-    "Finish": EQUAL,
-    "ProgramEnd": EQUAL,
-    "RunEnd": EQUAL,
-    "RunError": EQUAL,
-    "RunNumbers": EQUAL,
-    "SaidNumbers": ("Default",) + EQUAL,
-    "SuiteEnd": EQUAL,
-    "SuiteKey": EQUAL,
-    "TestDetails": EQUAL,
+KEY = EQUAL + ("PartialOrd", "Ord", "Hash")
+ADDED_DERIVES = dict.fromkeys(
+    (
+        "ByteSubslice", "ChildError", "ChildExecutionOutput", "ChildFdError", "ChildOutput", "ChildOutputDescription",
+        "ChildSplitOutput", "ChildStartError", "RunStart", "StatusLevels", "StressCondition", "TestList",
+        "TestOutputErrorSlice", "TestsNotSeen", "UnitAbortDescription", "UnitTerminateMethod", "UnitTerminateReason",
+        "CargoFailure", "Event", "Finish", "ProgramEnd", "RunEnd", "RunError", "RunNumbers", "SuiteEnd", "SuiteKey",
+        "TestDetails",
+    ),
+    EQUAL,
+) | dict.fromkeys(
+    (
+        "JunitFlakyFailStatus", "MismatchReason", "OwnedTestInstanceId", "ReportSkipPolicy", "ScriptId", "TestGroup",
+        "TestInstanceId",
+    ),
+    KEY,
+)
+ADDED_DERIVES |= {"ErrorList": ("Clone", "Debug") + EQUAL, "SaidNumbers": ("Default",) + EQUAL}
+
+# Derives that a type does not have. `Debug` and `Clone` are by hand: derived ones would call themselves for each cause
+# of a chain, would write text as numbers or twice, or would show private fields. A source that is read must not be
+# copied, a description has 72 bytes, and a sink borrows what it writes to exclusively.
+REMOVED_DERIVES = {
+    **dict.fromkeys(("ByteSubslice", "ChildSingleOutput", "ProgramRun", "SuiteNames", "TestRun"), ("Debug",)),
+    "SerializableError": ("Clone", "Debug"),
+    "MemorySource": ("Copy",),
+    "UnitErrorDescription": ("Copy",),
+    "MemorySink": ("Clone",),
 }
-
-# Derives that a type does not have: a source that is read must not be copied, and a description has 72 bytes.
-REMOVED_DERIVES = {"MemorySource": ("Copy",), "UnitErrorDescription": ("Copy",)}
-
-# Types that cannot be cloned, since they borrow what they write to exclusively.
-NO_CLONE = ("MemorySink",)
-
-# Types whose `Debug` is written by hand: a derived one would call itself for each cause of a chain, would write text
-# as numbers or twice, or would show private fields.
-NO_DEBUG = ("ByteSubslice", "ChildSingleOutput", "ProgramRun", "SerializableError", "SuiteNames", "TestRun")
 
 # Types to which cases or fields may be added, and the attribute that says so: those of which nextest says so, whose
 # cases nextest's own code matches without an arm for others, and three that nextest does not have.

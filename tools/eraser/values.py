@@ -1,7 +1,4 @@
-"""The values that a function returns, when its errors go: `Ok(x)` becomes `x`, and the like."""
-from .calls import PRINTS, WRITES, is_macro
-from .writes import to_push_str
-
+"""Edits the values that a function returns, when its refusals of memory go: `Ok(x)` becomes `x`, and the like."""
 BLOCKS = ("if", "match", "for", "while", "loop", "unsafe")
 
 
@@ -11,8 +8,6 @@ class Values:
     def __init__(self, source, function, calls):
         """Prepares the edit of the values of `function`, whose calls are found by `calls`."""
         self.source, self.function, self.calls = source, function, calls
-        words = function.type_words()
-        self.is_result = words[:1] == ["Result"] or words[:3] == ["io", "::", "Result"]
         self.settled = set()
 
     def edit(self):
@@ -118,17 +113,7 @@ class Values:
 
     def _expression(self, first, last, is_return):
         """Edits a value that is neither a block nor a branch."""
-        if self.function.is_plain:
-            self._plain_value(first, last, is_return)
-        elif self.is_result:
-            self._result_value(first, last, is_return)
-
-    def _plain_value(self, first, last, is_return):
-        """Edits a value of a function that now returns `T`."""
-        source = self.source
-        opening = source.after(first)
-        if source.text[first] == "return":
-            return
+        source, opening = self.source, self.source.after(first)
         if source.text[first] == "Ok" and source.at(opening) == "(" and source.partner[opening] == last:
             if source.words(opening, last)[1:] == ["(", ")"]:
                 self._drop_unit(first, last, is_return)
@@ -139,11 +124,8 @@ class Values:
             self.settled.add(last)
             if self.function.returns_unit and not is_return and source.at(source.before(first)) != "=>":
                 source.new[last] += ";"
-        elif is_macro(source, last, WRITES):
-            self._append(first, last, is_return)
-        else:
-            name = self.function.name
-            source.refuse(first, f"`{name}` returns neither `Ok` nor a call that always succeeds")
+        elif source.text[first] != "return":
+            source.refuse(first, f"`{self.function.name}` returns neither `Ok` nor a call that always succeeds")
 
     def _drop_unit(self, first, last, is_return):
         """Drops the value `Ok(())`, with an `else` of which it is all."""
@@ -157,34 +139,3 @@ class Values:
             source.drop(source.before(before), after)
         elif is_return and source.kind[first - 1] == "space":
             source.is_dropped[first - 1] = True
-
-    def _result_value(self, first, last, is_return):
-        """Edits a value of a function that still returns a `Result`."""
-        source = self.source
-        if is_macro(source, last, PRINTS):
-            self._add_unit(first, last, is_return)
-        elif self.calls.is_plain(source, last, self.function):
-            self.settled.add(last)
-            if self.function.returns_unit and not is_return:
-                self._add_unit(first, last, is_return)
-            else:
-                source.new[first] = "Ok(" + source.new[first]
-                source.new[last] += ")"
-
-    def _add_unit(self, first, last, is_return):
-        """Puts `Ok(())` after a call that now returns nothing."""
-        source = self.source
-        if is_return:
-            source.refuse(first, "a call that returns nothing is returned")
-        is_arm = source.at(source.before(first)) == "=>"
-        source.new[first] = ("{ " if is_arm else "") + source.new[first]
-        source.new[last] += "; Ok(())" + (" }" if is_arm else "")
-
-    def _append(self, first, last, is_return):
-        """Takes a `write!` that is a function's value to a statement."""
-        source = self.source
-        if is_return:
-            source.refuse(first, "a `write!` that is returned")
-        to_push_str(source, first, last)
-        if source.at(source.before(first)) != "=>":
-            source.new[last] += ";"

@@ -50,10 +50,18 @@ pub mod report_templates;
     clippy::new_without_default,
     reason = "`ReportText::new` takes an allocator in the proved text, where there is no `Default` for it"
 )]
+#[allow(
+    clippy::while_let_on_iterator,
+    reason = "forms of the proved text, which `tools/erase` leaves as they are"
+)]
 pub mod report_text;
 #[doc(hidden)]
 pub mod run_again;
 #[doc(hidden)]
+#[allow(
+    clippy::while_let_on_iterator,
+    reason = "forms of the proved text, which `tools/erase` leaves as they are"
+)]
 pub mod run_digest_engine;
 #[doc(hidden)]
 pub mod run_input;

@@ -125,10 +125,21 @@
 #![no_std]
 #![cfg_attr(docsrs, feature(doc_cfg))]
 #![forbid(unsafe_code)]
-#![warn(missing_docs, missing_debug_implementations)]
+#![warn(
+    missing_docs,
+    missing_debug_implementations,
+    clippy::missing_errors_doc
+)]
 #![allow(
     clippy::len_without_is_empty,
     reason = "a list of errors or attempts is never empty"
+)]
+#![allow(
+    unused_labels,
+    clippy::manual_find,
+    clippy::needless_borrow,
+    clippy::question_mark,
+    reason = "forms of the proved text, which `tools/erase` leaves as they are"
 )]
 
 extern crate alloc;

@@ -199,6 +199,16 @@
 //! - For the levels of a reporter in [`deodarsieve`]: [`Finish`], [`finished_test`], [`FinishedTest`].
 #![deny(unsafe_code)]
 #![deny(missing_docs)]
+#![allow(
+    clippy::manual_filter,
+    clippy::manual_map,
+    clippy::manual_ok_err,
+    clippy::manual_range_contains,
+    clippy::mem_replace_with_default,
+    clippy::option_as_ref_deref,
+    clippy::question_mark,
+    reason = "forms of the proved text, which `tools/erase` leaves as they are"
+)]
 
 mod events;
 mod notes;

@@ -2,11 +2,10 @@
 //! The codes of enumerations, converted to values and back.
 
 use crate::c_values::layout::FfiResult;
-use deodarsieve::{
-    AbortDescription, CancelReason, ExecutionResultDescription, FailureDescription,
-    FinalStatusLevel, FlakyResult, LeakTimeoutResult, OutputStoreFinal, RunFailureStep, RunOutcome,
-    SlowTimeoutResult, StatusLevel, StressFinalRunStats, TestOutputDisplay,
-};
+use deodarsieve::{AbortDescription, CancelReason, ExecutionResultDescription, FailureDescription};
+use deodarsieve::{FinalStatusLevel, OutputStoreFinal, StatusLevel};
+use deodarsieve::{FlakyResult, LeakTimeoutResult, SlowTimeoutResult, TestOutputDisplay};
+use deodarsieve::{RunFailureStep, RunOutcome, StressFinalRunStats};
 
 const FLAKY_RESULTS: [FlakyResult; 2] = [FlakyResult::Pass, FlakyResult::Fail];
 

@@ -2,7 +2,8 @@
 //! The progress of repeated runs, and what remains of them.
 
 use crate::c_values::layout::{FfiDuration, FfiStressProgress, FfiStressRemaining};
-use deodarsieve::{NonZeroDuration, StressCount, StressProgress, StressRemaining};
+use deodarsieve::NonZeroDuration;
+use deodarsieve::{StressCount, StressProgress, StressRemaining};
 use std::num::NonZero;
 use std::time::Duration;
 

@@ -4,7 +4,9 @@
 use crate::c_values::codes;
 use crate::c_values::layout::{FfiFinalStats, FfiRunStats, FfiTestView};
 use crate::c_values::status::{BAD_CODE, OK};
-use deodarsieve::{FinalRunStats, FinishedTest, RunStats, RunStatsFailureKind};
+use deodarsieve::FinishedTest;
+use deodarsieve::RunStats;
+use deodarsieve::{FinalRunStats, RunStatsFailureKind};
 
 /// Writes the value if there is one, and returns the status: `OK` or `BAD_CODE`.
 pub fn give<T: Copy>(answer: &mut T, value: Option<T>) -> u32 {

@@ -4,7 +4,8 @@
 use crate::c_values::layout::{FfiFinalStats, FfiRunStats};
 use crate::c_values::outcomes::outcome_of;
 use crate::c_values::{codes, values};
-use deodarsieve::{StressIndex, StressRunStats};
+use deodarsieve::StressIndex;
+use deodarsieve::StressRunStats;
 
 /// Writes the summary of a finished run's counters, for any values of them.
 #[unsafe(no_mangle)]

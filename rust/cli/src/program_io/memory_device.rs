@@ -58,6 +58,7 @@ pub struct MemorySink<'a> {
     len: usize,
     calls_left: Option<usize>,
     failed: bool,
+    flushed: bool,
 }
 
 impl<'a> MemorySink<'a> {
@@ -69,6 +70,7 @@ impl<'a> MemorySink<'a> {
             len: 0,
             calls_left: fail_at,
             failed: false,
+            flushed: false,
         }
     }
 
@@ -82,6 +84,7 @@ impl<'a> MemorySink<'a> {
         let fails = self.calls_left == Some(0);
         self.calls_left = one_fewer(self.calls_left);
         self.failed |= fails;
+        self.flushed = false;
         fails
     }
 }
@@ -109,6 +112,7 @@ impl Sink for MemorySink<'_> {
         if self.call_fails() {
             return Err(DeviceFailed);
         }
+        self.flushed = true;
         Ok(())
     }
 }

@@ -43,6 +43,7 @@ impl<R: Read> Source for StdSource<R> {
 pub struct StdSink<W> {
     writer: W,
     failed: bool,
+    flushed: bool,
 }
 
 impl<W: Write> StdSink<W> {
@@ -51,6 +52,7 @@ impl<W: Write> StdSink<W> {
         StdSink {
             writer,
             failed: false,
+            flushed: false,
         }
     }
 }
@@ -62,6 +64,7 @@ impl<W: Write> Sink for StdSink<W> {
 
     /// Writes by one write of the writer.
     fn write(&mut self, buffer: &[u8]) -> Result<usize, DeviceFailed> {
+        self.flushed = false;
         match self.writer.write(buffer) {
             Ok(n) if n > 0 => Ok(n),
             _ => {
@@ -74,9 +77,13 @@ impl<W: Write> Sink for StdSink<W> {
     /// Flushes the writer.
     fn flush(&mut self) -> Result<(), DeviceFailed> {
         match self.writer.flush() {
-            Ok(()) => Ok(()),
+            Ok(()) => {
+                self.flushed = true;
+                Ok(())
+            }
             Err(_) => {
                 self.failed = true;
+                self.flushed = false;
                 Err(DeviceFailed)
             }
         }

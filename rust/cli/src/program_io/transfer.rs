@@ -11,7 +11,10 @@ pub fn read_all<R: Source>(source: &mut R) -> Result<Vec<u8>, DeviceFault> {
     let mut bytes = Vec::new();
     let mut chunk = [0u8; 4096];
     loop {
-        let n = source.read(&mut chunk).map_err(|_| DeviceFault::Read)?;
+        let n = match source.read(&mut chunk) {
+            Ok(n) => n,
+            Err(_) => return Err(DeviceFault::Read),
+        };
         if n == 0 {
             return Ok(bytes);
         }
@@ -33,5 +36,8 @@ pub fn write_all<W: Sink>(sink: &mut W, text: &[u8]) -> Result<(), DeviceFault> 
             Err(_) => return Err(DeviceFault::Write),
         }
     }
-    sink.flush().map_err(|_| DeviceFault::Write)
+    match sink.flush() {
+        Ok(()) => Ok(()),
+        Err(_) => Err(DeviceFault::Write),
+    }
 }

@@ -37,9 +37,9 @@ fn is_parameter(c: char) -> bool {
 
 /// Returns the number of bytes up to the end of a sequence whose parameters come, or 0.
 fn parameters_len(text: &str) -> usize {
-    let rest = text.chars();
+    let mut rest = text.chars();
     let mut n: usize = 0;
-    for c in rest {
+    while let Some(c) = rest.next() {
         n += 1;
         if c == 'm' {
             return n;

@@ -4,7 +4,9 @@
 use crate::run_digest_engine::parts::Parts;
 use crate::run_digest_engine::units::{parse_script, parse_test};
 use crate::run_digest_engine::words::parse_start;
-use deodarsieve::{ExecutionResultDescription, FinishedTest, RunStart};
+use deodarsieve::ExecutionResultDescription;
+use deodarsieve::FinishedTest;
+use deodarsieve::RunStart;
 
 /// A line after line 1.
 #[derive(Clone)]

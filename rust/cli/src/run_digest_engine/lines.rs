@@ -13,7 +13,9 @@ const MAX_LINES: usize = 10_000;
 
 /// Parses line 1.
 fn parse_first(line: &[u8]) -> Option<RunStart> {
-    let text = str::from_utf8(line).ok()?;
+    let Ok(text) = str::from_utf8(line) else {
+        return None;
+    };
     let mut words = Parts::new(text, ' ');
     match words.next() {
         Some("run") => parse_start(words),
@@ -47,7 +49,8 @@ pub(crate) fn stats_in(bytes: &[u8]) -> Result<Vec<RunStats>, Fault> {
     };
     let mut runs = Vec::new();
     let mut stats = RunStats::of_run(&[], start);
-    for (number, line) in (2..).zip(lines) {
+    let mut number = 2;
+    while let Some(line) = lines.next() {
         if number > MAX_LINES {
             return Err(Fault::BadLine { number });
         }
@@ -55,6 +58,7 @@ pub(crate) fn stats_in(bytes: &[u8]) -> Result<Vec<RunStats>, Fault> {
             return Err(Fault::BadLine { number });
         };
         stats = count_entry(&mut runs, stats, entry);
+        number += 1;
     }
     runs.push(stats);
     Ok(runs)

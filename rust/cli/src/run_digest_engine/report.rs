@@ -2,7 +2,8 @@
 //! The text of reports of runs.
 
 use crate::run_digest_engine::words::reason_text;
-use deodarsieve::{FinalRunStats, RunFailureStep, RunOutcome, RunStats, RunStatsFailureKind};
+use deodarsieve::RunStats;
+use deodarsieve::{FinalRunStats, RunFailureStep, RunOutcome, RunStatsFailureKind};
 use std::fmt;
 
 /// The step of a run, displayed in words.

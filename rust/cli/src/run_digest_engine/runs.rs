@@ -2,7 +2,8 @@
 //! The report of finished runs.
 
 use crate::run_digest_engine::report::{push_outcome, report_texts};
-use deodarsieve::{FinishedRun, RunOutcome, RunStats};
+use deodarsieve::RunOutcome;
+use deodarsieve::{FinishedRun, RunStats};
 
 /// Returns the statistics of a finished run.
 fn stats_of_run(run: &FinishedRun<'_>) -> RunStats {

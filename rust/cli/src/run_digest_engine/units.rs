@@ -3,7 +3,8 @@
 
 use crate::run_digest_engine::parts::Parts;
 use crate::run_digest_engine::words::{parse_flags, parse_result};
-use deodarsieve::{ExecutionResult, ExecutionResultDescription, FinishedTest};
+use deodarsieve::FinishedTest;
+use deodarsieve::{ExecutionResult, ExecutionResultDescription};
 
 /// The greatest number of results of a test.
 const MAX_RESULTS: usize = 100;
@@ -24,8 +25,8 @@ fn parse_results(list: &str) -> Option<(ExecutionResultDescription, usize)> {
     // A text has at least one part, so the first result replaces this one.
     let mut last = ExecutionResult::Pass;
     let mut count = 0;
-    let words = Parts::new(list, ',');
-    for word in words {
+    let mut words = Parts::new(list, ',');
+    while let Some(word) = words.next() {
         if count == MAX_RESULTS {
             return None;
         }

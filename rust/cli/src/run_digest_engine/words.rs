@@ -2,10 +2,9 @@
 //! The words of an input.
 
 use crate::run_digest_engine::parts::Parts;
-use deodarsieve::{
-    CancelReason, ExecutionResult, FailureStatus, FlakyResult, LeakTimeoutResult, RunStart,
-    SlowTimeoutResult,
-};
+use deodarsieve::RunStart;
+use deodarsieve::{CancelReason, ExecutionResult, FailureStatus};
+use deodarsieve::{FlakyResult, LeakTimeoutResult, SlowTimeoutResult};
 
 /// The greatest number of digits of a number.
 const MAX_DIGITS: usize = 7;

@@ -8,25 +8,6 @@
 //! | `{{*name}}` | the text `name` in Markdown, outside of `<pre>` |
 //! | `{{#list}}..{{/list}}` | what is between them, for each item of `list` |
 //! | `{{^list}}..{{/list}}` | what is between them, if `list` has no item |
-//!
-//! A list is the values that have its name, in their order. This function greets someone in HTML:
-//!
-//! ```
-//! use deodarsieve_cli::template::parse::parse_template;
-//! use deodarsieve_cli::template::rendering::render;
-//! use deodarsieve_cli::template::value::push_text;
-//!
-//! fn greeting(name: &str) -> Option<String> {
-//!     let parts = parse_template("<p>Hello, {{name}}!\n</p>")?;
-//!     let mut values = Vec::new();
-//!     push_text(&mut values, "name", name.to_owned());
-//!     let mut page = String::new();
-//!     render(&mut page, parts.as_slice(), values.as_slice());
-//!     Some(page)
-//! }
-//!
-//! assert_eq!(greeting("Ann & Bo").as_deref(), Some("<p>Hello, Ann &amp; Bo!\n</p>"));
-//! ```
 
 pub mod hole;
 pub mod parse;

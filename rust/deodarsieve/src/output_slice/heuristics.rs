@@ -152,7 +152,7 @@ fn widened(stderr: &[u8], start: usize) -> usize {
     let Some(at) = last_byte(stderr, b'\n', end) else {
         return start;
     };
-    if stderr[at..end].starts_with_str(b"\nError:") {
+    if (&stderr[at..end]).starts_with_str(b"\nError:") {
         at + 1
     } else {
         start
@@ -179,7 +179,7 @@ fn trimmed(stderr: &[u8], start: usize) -> ByteSubslice<'_> {
 
 /// Returns the offset of the ASCII white space at the end of the bytes, which is at least `start`.
 fn spaces_start(bytes: &[u8], start: usize) -> usize {
-    match bytes[start..].rfind_not_byteset(SPACES) {
+    match (&bytes[start..]).rfind_not_byteset(SPACES) {
         Some(last) => start + last + 1,
         None => start,
     }

@@ -55,7 +55,7 @@ fn crossing(bytes: &[u8], at: usize) -> Option<usize> {
 
 /// Returns true if `at` is a line start and `thread '` begins there.
 fn is_opening(bytes: &[u8], at: usize) -> bool {
-    is_line_start(bytes, at) && bytes[at..].starts_with_str(&OPENING.text[1..])
+    is_line_start(bytes, at) && (&bytes[at..]).starts_with_str(&OPENING.text[1..])
 }
 
 /// Returns the last line start at or before `at` that no head can contain.

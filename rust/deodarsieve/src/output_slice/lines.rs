@@ -5,13 +5,13 @@ use bstr::ByteSlice;
 
 /// Returns the offset of the first `byte` at or after `from`.
 pub(crate) fn next_byte(bytes: &[u8], byte: u8, from: usize) -> Option<usize> {
-    let gap = bytes[from..].find_byte(byte)?;
+    let gap = (&bytes[from..]).find_byte(byte)?;
     Some(from + gap)
 }
 
 /// Returns the offset of the last `byte` before `end`.
 pub(crate) fn last_byte(bytes: &[u8], byte: u8, end: usize) -> Option<usize> {
-    bytes[..end].rfind_byte(byte)
+    (&bytes[..end]).rfind_byte(byte)
 }
 
 /// Returns true if `at` is the start of a line.

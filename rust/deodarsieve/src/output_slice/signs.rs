@@ -120,7 +120,7 @@ fn first_match(block: &[u8], sign: Sign) -> Option<usize> {
 /// faster.
 fn last_by_find(bytes: &[u8], sign: Sign) -> Option<usize> {
     let mut last = bytes.find(sign.text)?;
-    while let Some(gap) = bytes[last + 1..].find(sign.text) {
+    while let Some(gap) = (&bytes[last + 1..]).find(sign.text) {
         last += gap + 1;
     }
     Some(last)
@@ -157,7 +157,7 @@ fn first_by_rare_byte(bytes: &[u8], sign: Sign) -> Option<usize> {
         misses += 1;
         if are_too_many(misses, sign, from) {
             let rest = from.saturating_sub(sign.rare);
-            let gap = bytes[rest..].find(sign.text)?;
+            let gap = (&bytes[rest..]).find(sign.text)?;
             return Some(rest + gap);
         }
     }
@@ -173,7 +173,7 @@ fn are_too_many(misses: usize, sign: Sign, passed: usize) -> bool {
 /// Returns the offset of the `sign` whose rare byte is at `at`, or `None` if there is none.
 fn sign_around(bytes: &[u8], sign: Sign, at: usize) -> Option<usize> {
     let start = at.checked_sub(sign.rare)?;
-    if bytes[start..].starts_with_str(sign.text) {
+    if (&bytes[start..]).starts_with_str(sign.text) {
         Some(start)
     } else {
         None

@@ -13,7 +13,7 @@ use uuid::Uuid;
 #[cfg_attr(
     feature = "serde",
     derive(serde::Serialize, serde::Deserialize),
-    serde(tag = "kind", rename_all = "kebab-case")
+    serde(rename_all = "kebab-case", tag = "kind")
 )]
 pub enum StressCount {
     /// A fixed number of times.
@@ -60,7 +60,7 @@ pub enum StressRemaining {
 #[cfg_attr(
     feature = "serde",
     derive(serde::Serialize, serde::Deserialize),
-    serde(tag = "progress-type", rename_all = "kebab-case")
+    serde(rename_all = "kebab-case", tag = "progress-type")
 )]
 pub enum StressProgress {
     /// The run is repeated a number of times, or without end.

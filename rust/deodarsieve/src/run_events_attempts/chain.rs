@@ -48,7 +48,7 @@ impl SerializableError {
     #[must_use]
     pub fn from_message_and_causes(message: String, mut causes: Vec<String>) -> Self {
         let mut source: Option<Box<SerializableError>> = None;
-        while let Some(message) = causes.pop() {
+        'link: while let Some(message) = causes.pop() {
             source = Some(Box::new(SerializableError { message, source }));
         }
         SerializableError { message, source }
@@ -85,7 +85,7 @@ impl PartialEq for SerializableError {
     fn eq(&self, other: &SerializableError) -> bool {
         let mut left = self;
         let mut right = other;
-        loop {
+        'compare: loop {
             if left.message() != right.message() {
                 return false;
             }

@@ -37,8 +37,8 @@ impl OutputSpec for LiveSpec {
     feature = "serde",
     derive(serde::Serialize, serde::Deserialize),
     serde(
-        tag = "type",
         rename_all = "kebab-case",
+        tag = "type",
         bound(
             serialize = "S::ChildOutputDesc: serde::Serialize",
             deserialize = "S::ChildOutputDesc: serde::Deserialize<'de>"

@@ -96,7 +96,7 @@ impl ExecutionResult {
 #[cfg_attr(
     feature = "serde",
     derive(serde::Serialize, serde::Deserialize),
-    serde(tag = "status", rename_all = "kebab-case")
+    serde(rename_all = "kebab-case", tag = "status")
 )]
 pub enum ExecutionResultDescription {
     /// The attempt succeeded.

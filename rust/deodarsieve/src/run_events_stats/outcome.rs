@@ -16,7 +16,7 @@ pub use crate::run_events_stats::outcome::run_outcome::RunOutcome;
 #[cfg_attr(
     feature = "serde",
     derive(serde::Serialize, serde::Deserialize),
-    serde(tag = "outcome", rename_all = "kebab-case")
+    serde(rename_all = "kebab-case", tag = "outcome")
 )]
 pub enum FinalRunStats {
     /// All setup scripts and tests that were to run did run, at least one test did, and none failed.
@@ -68,7 +68,7 @@ impl FinalRunStats {
 #[cfg_attr(
     feature = "serde",
     derive(serde::Serialize, serde::Deserialize),
-    serde(tag = "step", rename_all = "kebab-case")
+    serde(rename_all = "kebab-case", tag = "step")
 )]
 pub enum RunStatsFailureKind {
     /// A setup script, before any test.

@@ -56,7 +56,10 @@ pub(crate) enum CargoLine<'a> {
 pub(crate) fn cargo_line(text: &str) -> Option<CargoLine<'_>> {
     match heading_of(text) {
         Some(found) => Some(CargoLine::Heading(found)),
-        None => cargo_failure(text).map(CargoLine::Failure),
+        None => match cargo_failure(text) {
+            Some(failure) => Some(CargoLine::Failure(failure)),
+            None => None,
+        },
     }
 }
 
@@ -90,11 +93,14 @@ fn binary_heading(text: &str) -> Option<Heading<'_>> {
 /// Returns the heading that `TARGET (PATH)` makes, or `None` if the text has another form.
 fn target_heading(text: &str) -> Option<Heading<'_>> {
     match target_and_path(text) {
-        Some((target, path)) => binary_at(path).map(|binary| Heading::Target {
-            binary,
-            target,
-            path,
-        }),
+        Some((target, path)) => match binary_at(path) {
+            Some(binary) => Some(Heading::Target {
+                binary,
+                target,
+                path,
+            }),
+            None => None,
+        },
         None => None,
     }
 }

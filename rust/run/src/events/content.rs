@@ -192,7 +192,7 @@ impl Content {
             Content::Other => Event::Other,
             Content::Heading { suite, path } => Event::Heading {
                 suite: suite.as_str(),
-                path: path.as_deref(),
+                path: path.as_ref().map(String::as_str),
             },
             Content::Failure {
                 failure,
@@ -236,7 +236,10 @@ impl KeyTexts {
 
 /// Returns a key that may be absent with a copy of its texts.
 fn key_texts(key: Option<SuiteKey<'_>>) -> Option<KeyTexts> {
-    key.map(KeyTexts::of)
+    match key {
+        Some(key) => Some(KeyTexts::of(key)),
+        None => None,
+    }
 }
 
 impl LastLine {
@@ -261,9 +264,9 @@ impl TestEnd {
             name: self.name.as_str(),
             result: self.result,
             details: TestDetails {
-                stdout: self.stdout.as_deref(),
-                message: self.message.as_deref(),
-                reason: self.reason.as_deref(),
+                stdout: self.stdout.as_ref().map(String::as_str),
+                message: self.message.as_ref().map(String::as_str),
+                reason: self.reason.as_ref().map(String::as_str),
                 time: self.time,
             },
         }
@@ -272,5 +275,8 @@ impl TestEnd {
 
 /// Copies a text that may be absent.
 pub(crate) fn owned(text: Option<&str>) -> Option<String> {
-    text.map(String::from)
+    match text {
+        Some(text) => Some(String::from(text)),
+        None => None,
+    }
 }

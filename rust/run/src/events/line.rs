@@ -138,7 +138,10 @@ fn value_from(bytes: &[u8]) -> Option<Value> {
 /// Parses a text as JSON, and returns `None` if it is not JSON. This is faster than to parse bytes, because the
 /// parser does not check each string for UTF-8.
 fn value_of_text(text: &str) -> Option<Value> {
-    serde_json::from_str::<Value>(text).ok()
+    match serde_json::from_str::<Value>(text) {
+        Ok(value) => Some(value),
+        Err(_) => None,
+    }
 }
 
 /// Returns the JSON value of a line, or else of the part of it that starts at its last event, and the offset at
@@ -155,7 +158,10 @@ fn value_in(bytes: &[u8]) -> Option<(usize, Value)> {
 
 /// Returns the JSON value that begins at an offset, and the offset.
 fn value_at(bytes: &[u8], at: usize) -> Option<(usize, Value)> {
-    value_from(&bytes[at..]).map(|value| (at, value))
+    match value_from(&bytes[at..]) {
+        Some(value) => Some((at, value)),
+        None => None,
+    }
 }
 
 /// Returns the last offset at which an event starts. The harness writes a space after the brace of an

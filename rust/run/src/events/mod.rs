@@ -9,24 +9,6 @@
 //!
 //! The lines are those of Rust's test harness (`--format json`), of cargo nextest (`--message-format
 //! libtest-json`) and of cargo. Any bytes are accepted, and they need not be UTF-8.
-//!
-//! This function returns the number of tests that the first line of a suite announces:
-//!
-//! ```
-//! use deodarsieve_run::Event;
-//! use deodarsieve_run::Line;
-//!
-//! fn test_count_of(bytes: &[u8]) -> Option<u64> {
-//!     let line = Line::read(bytes);
-//!     match line.event() {
-//!         Event::SuiteStarted { test_count, .. } => test_count,
-//!         _ => None,
-//!     }
-//! }
-//!
-//! let line = br#"{ "type": "suite", "event": "started", "test_count": 10 }"#;
-//! assert_eq!(test_count_of(line), Some(10));
-//! ```
 
 mod cargo;
 mod content;

@@ -49,14 +49,26 @@ fn parameters_end(text: &[u8]) -> Option<usize> {
 /// Returns the length of the parameters at the start of a text. Returns `None` if the last byte of an escape
 /// does not follow them.
 fn parameters_size(text: &[u8]) -> Option<usize> {
-    parameters_end(text).filter(|&end| is_final(text[end]))
+    match parameters_end(text) {
+        Some(end) => {
+            if is_final(text[end]) {
+                Some(end)
+            } else {
+                None
+            }
+        }
+        None => None,
+    }
 }
 
 /// Returns the length of the escape at the start of a text: `ESC [`, then parameters, then a last byte. Returns
 /// `None` if the text does not start with an escape.
 fn escape_size(text: &[u8]) -> Option<usize> {
     match text {
-        [0x1b, b'[', parameters @ ..] => parameters_size(parameters).map(|size| size + 3),
+        [0x1b, b'[', parameters @ ..] => match parameters_size(parameters) {
+            Some(size) => Some(size + 3),
+            None => None,
+        },
         _ => None,
     }
 }

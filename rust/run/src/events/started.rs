@@ -8,7 +8,10 @@ pub(crate) fn started_test(line: &[u8]) -> Option<&str> {
     if !are_plain(name) {
         return None;
     }
-    str::from_utf8(name).ok()
+    match str::from_utf8(name) {
+        Ok(name) => Some(name),
+        Err(_) => None,
+    }
 }
 
 /// Returns the bytes between the quotes of the name in such a line. They are the name if they have no escapes.

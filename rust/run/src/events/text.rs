@@ -29,7 +29,10 @@ fn cargo_contents(shown: &str, plain: &str) -> Option<(Option<Content>, Content)
     let text = without_spaces(plain);
     match cargo_line(text) {
         Some(says) => Some((None, Content::of_cargo(says, shown, text))),
-        None => cargo_end(plain).map(end_contents),
+        None => match cargo_end(plain) {
+            Some(end) => Some(end_contents(end)),
+            None => None,
+        },
     }
 }
 

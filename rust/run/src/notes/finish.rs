@@ -2,9 +2,9 @@
 //! How a test finished, as the statistics and levels of the layer take it.
 
 use crate::notes::note::FailureKind;
-use deodarsieve::{
-    ExecutionResultDescription, FailureDescription, FinishedTest, FlakyResult, SlowTimeoutResult,
-};
+use deodarsieve::FinishedTest;
+use deodarsieve::{ExecutionResultDescription, FailureDescription};
+use deodarsieve::{FlakyResult, SlowTimeoutResult};
 
 /// The exit code of Rust's test harness if a test failed.
 const HARNESS_FAILED: i32 = 101;

@@ -3,7 +3,9 @@
 
 use crate::events::event::TestResult;
 use crate::events::program::ProgramEnd;
-use deodarsieve::{CancelReason, RunOutcome, RunStats};
+use deodarsieve::CancelReason;
+use deodarsieve::RunOutcome;
+use deodarsieve::RunStats;
 use std::rc::Rc;
 
 /// A fact about a run that a line, or the end of a file, makes known.

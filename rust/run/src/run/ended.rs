@@ -14,7 +14,10 @@ const TIME_LIMIT: &str = "time limit exceeded";
 
 /// Copies a text that may be absent.
 fn owned(text: Option<&str>) -> Option<String> {
-    text.map(String::from)
+    match text {
+        Some(text) => Some(String::from(text)),
+        None => None,
+    }
 }
 
 /// Returns the failure of a test, from the line that says that it failed.

@@ -60,5 +60,8 @@ impl Paths {
 
 /// Returns a text that may be absent, as an owned text.
 fn owned(text: Option<&str>) -> Option<String> {
-    text.map(String::from)
+    match text {
+        Some(text) => Some(String::from(text)),
+        None => None,
+    }
 }

@@ -166,7 +166,10 @@ impl Others {
 
     /// Returns the plain text of the cause of the last failure.
     pub(crate) fn last_cause(&self) -> Option<String> {
-        self.last_cause.clone()
+        match &self.last_cause {
+            Some(cause) => Some(cause.clone()),
+            None => None,
+        }
     }
 }
 

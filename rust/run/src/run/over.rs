@@ -36,7 +36,10 @@ fn copy_of(crash: &Crash) -> Crash {
     for line in &crash.last {
         last.push(line.clone());
     }
-    let cause = crash.cause.clone();
+    let cause = match &crash.cause {
+        Some(cause) => Some(cause.clone()),
+        None => None,
+    };
     Crash {
         running: crash.running,
         has_key: crash.has_key,

@@ -287,7 +287,10 @@ impl TestRun {
 
     /// Returns the name of the file, if the files of the run have names.
     fn file_name(&self) -> Option<String> {
-        self.file_names.front().cloned()
+        match self.file_names.front() {
+            Some(name) => Some(name.clone()),
+            None => None,
+        }
     }
 
     /// Stores that a line is an event of a harness, and the number of causes if cargo reports a failure outside

@@ -9,7 +9,8 @@ use crate::run::last_line::Tally;
 use crate::run::others::{EventPlace, Others, PrintPlace};
 use crate::run::said::{Said, sum};
 use crate::run::suite_name::SuiteName;
-use deodarsieve::{CancelReason, RunStats};
+use deodarsieve::CancelReason;
+use deodarsieve::RunStats;
 use std::rc::Rc;
 
 /// A test that is over, without its outcome.

@@ -68,12 +68,18 @@ impl SuiteName {
 
     /// Returns the name, or `None` for the tests outside of a suite.
     pub(crate) fn shown(&self) -> Option<Rc<String>> {
-        self.shown.clone()
+        match &self.shown {
+            Some(shown) => Some(shown.clone()),
+            None => None,
+        }
     }
 
     /// Returns the text of the name, or `None` for the tests outside of a suite.
     pub(crate) fn shown_text(&self) -> Option<&str> {
-        self.shown.as_ref().map(|shown| shown.as_str())
+        match &self.shown {
+            Some(shown) => Some(shown.as_str()),
+            None => None,
+        }
     }
 }
 
@@ -90,7 +96,10 @@ fn given_name(
     if let Some(heading) = heading {
         return Some(shared(heading.as_str()));
     }
-    before_dollar(first_test).map(shared)
+    match before_dollar(first_test) {
+        Some(name) => Some(shared(name)),
+        None => None,
+    }
 }
 
 /// Returns the part of the name of a test before the first `$`.
@@ -107,7 +116,9 @@ fn shared(text: &str) -> Rc<String> {
 /// Returns the name of a suite: the given one, or else `suite` and its number. The tests outside of a suite
 /// have none.
 fn shown_name(number: Option<usize>, given: Option<Rc<String>>) -> Option<Rc<String>> {
-    let number = number?;
+    let Some(number) = number else {
+        return None;
+    };
     if given.is_some() {
         return given;
     }

@@ -25,6 +25,9 @@ impl SuiteNames {
 
     /// Returns the name of the suites of the binary with this path, if it is known.
     pub(crate) fn get(&self, path: &str) -> Option<&str> {
-        self.names.get(path).map(|name| name.as_str())
+        match self.names.get(path) {
+            Some(name) => Some(name.as_str()),
+            None => None,
+        }
     }
 }

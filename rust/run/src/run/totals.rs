@@ -4,7 +4,8 @@
 use crate::notes::note::{RunEnd, SuiteNote};
 use crate::run::error::{RunError, one_more};
 use crate::run::said::time_sum;
-use deodarsieve::{RunFailureStep, RunOutcome, RunStats};
+use deodarsieve::RunStats;
+use deodarsieve::{RunFailureStep, RunOutcome};
 
 /// The sums over the suites that are over.
 #[derive(Clone, Copy, Debug)]

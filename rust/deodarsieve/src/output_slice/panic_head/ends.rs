@@ -21,7 +21,9 @@ fn after_text<S: ByteSource>(source: &mut S, at: usize, text: &[u8]) -> Option<u
 
 /// Returns the end of the tail that begins at `at`: the text of a head after its name.
 fn tail_end<S: ByteSource>(source: &mut S, at: usize) -> Option<usize> {
-    let space = after_text(source, at, b" ")?;
+    let Some(space) = after_text(source, at, b" ") else {
+        return None;
+    };
     let Some(number) = after_text(source, space, b"(") else {
         return after_text(source, space, b"panicked at ");
     };

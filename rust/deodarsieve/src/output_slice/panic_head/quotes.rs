@@ -12,7 +12,12 @@ pub(crate) const OPENING_SIZE: usize = WORD_SIZE + 1;
 /// Returns the offset of the first quote at or after `from`.
 pub(crate) fn next_quote<S: ByteSource>(source: &mut S, from: usize) -> Option<usize> {
     let end = source.len();
-    (from..end).find(|at| source.byte(*at) == b'\'')
+    for at in from..end {
+        if source.byte(at) == b'\'' {
+            return Some(at);
+        }
+    }
+    None
 }
 
 /// Returns true if `thread ` is before `quote`, at the start of a line and not before `place`.

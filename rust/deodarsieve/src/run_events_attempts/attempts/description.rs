@@ -67,7 +67,7 @@ impl<'a, S: OutputSpec> ExecutionDescription<'a, S> {
             }
             [first_status, retries @ ..] => ExecutionDescription::Failure {
                 first_status,
-                last_status: retries.last().unwrap_or(first_status),
+                last_status: &statuses[statuses.len() - 1],
                 retries,
             },
             [] => unreachable!("there is at least one attempt"),

@@ -49,15 +49,7 @@ impl SerializableError {
     /// texts with the nearest cause first. The list is present even if it is empty.
     #[must_use]
     pub fn to_value(&self) -> Value {
-        let mut causes = Vec::new();
-        for cause in self.sources() {
-            causes.push(Value::from(cause.message()));
-        }
-        let message = Value::from(self.message());
-        let mut members = Map::new();
-        members.insert(String::from("message"), message);
-        members.insert(String::from("causes"), Value::Array(causes));
-        Value::Object(members)
+        object_of(self)
     }
 
     /// Reads an error from an object with a text `message` and a list of texts `causes`. If `causes`
@@ -74,6 +66,19 @@ impl SerializableError {
     }
 }
 
+/// Returns an error as an object with a message and a list of causes.
+fn object_of(error: &SerializableError) -> Value {
+    let mut causes = Vec::new();
+    for cause in error.sources() {
+        causes.push(Value::from(cause.message()));
+    }
+    let message = Value::from(error.message());
+    let mut members = Map::new();
+    members.insert(String::from("message"), message);
+    members.insert(String::from("causes"), Value::Array(causes));
+    Value::Object(members)
+}
+
 /// Returns the message of a value.
 fn message_of(value: &Value) -> Result<&str, FromValueError> {
     if !value.is_object() {
@@ -81,7 +86,10 @@ fn message_of(value: &Value) -> Result<&str, FromValueError> {
     }
     match value.get("message") {
         None => Err(FromValueError::MessageMissing),
-        Some(member) => member.as_str().ok_or(FromValueError::MessageNotText),
+        Some(member) => match member.as_str() {
+            None => Err(FromValueError::MessageNotText),
+            Some(message) => Ok(message),
+        },
     }
 }
 

@@ -51,7 +51,7 @@ impl From<ChildFdError> for ChildError {
 #[cfg_attr(
     feature = "serde",
     derive(serde::Serialize, serde::Deserialize),
-    serde(tag = "kind", rename_all = "kebab-case")
+    serde(rename_all = "kebab-case", tag = "kind")
 )]
 pub enum ChildStartErrorDescription {
     /// No temporary path could be made for a setup script.
@@ -103,7 +103,7 @@ impl From<ChildStartError> for ChildStartErrorDescription {
 #[cfg_attr(
     feature = "serde",
     derive(serde::Serialize, serde::Deserialize),
-    serde(tag = "kind", rename_all = "kebab-case")
+    serde(rename_all = "kebab-case", tag = "kind")
 )]
 pub enum ChildErrorDescription {
     /// The standard output could not be read.

@@ -40,6 +40,24 @@ impl StatusLevels {
         test_final_status_level: FinalStatusLevel,
         execution_result: &ExecutionResultDescription,
     ) -> OutputOnTestFinished {
+        self.output_of(
+            display,
+            cancel_status,
+            test_status_level,
+            test_final_status_level,
+            execution_result,
+        )
+    }
+
+    /// Returns what a reporter shows and stores, by the cases of the reason.
+    fn output_of(
+        &self,
+        display: TestOutputDisplay,
+        cancel_status: Option<CancelReason>,
+        test_status_level: StatusLevel,
+        test_final_status_level: FinalStatusLevel,
+        execution_result: &ExecutionResultDescription,
+    ) -> OutputOnTestFinished {
         let write_status_line = self.status_level >= test_status_level;
         let is_stored = self.is_stored(display, test_final_status_level);
         if is_stopped(cancel_status, execution_result) {

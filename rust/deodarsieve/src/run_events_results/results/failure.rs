@@ -53,7 +53,7 @@ impl fmt::Debug for AbortStatus {
 #[cfg_attr(
     feature = "serde",
     derive(serde::Serialize, serde::Deserialize),
-    serde(tag = "kind", rename_all = "kebab-case")
+    serde(rename_all = "kebab-case", tag = "kind")
 )]
 pub enum FailureDescription {
     /// The process exited with this code.
@@ -102,7 +102,7 @@ impl fmt::Display for FailureDescription {
 #[cfg_attr(
     feature = "serde",
     derive(serde::Serialize, serde::Deserialize),
-    serde(tag = "kind", rename_all = "kebab-case")
+    serde(rename_all = "kebab-case", tag = "kind")
 )]
 pub enum AbortDescription {
     /// A signal.

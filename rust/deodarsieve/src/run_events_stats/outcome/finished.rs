@@ -10,7 +10,7 @@ use crate::run_events_stats::stats::RunStats;
 #[cfg_attr(
     feature = "serde",
     derive(serde::Serialize, serde::Deserialize),
-    serde(tag = "type", rename_all = "kebab-case")
+    serde(rename_all = "kebab-case", tag = "type")
 )]
 pub enum RunFinishedStats {
     /// The run was not repeated.

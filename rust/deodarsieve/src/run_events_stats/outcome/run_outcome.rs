@@ -69,20 +69,7 @@ impl RunOutcome {
     /// Returns the higher of two outcomes. The result for several outcomes does not depend on the
     /// order in which they are combined, and `NoTestsRun` does not change it.
     pub fn combine(self, other: Self) -> Self {
-        match (self, other) {
-            (RunOutcome::Failed { step: a }, RunOutcome::Failed { step: b }) => {
-                RunOutcome::Failed { step: a.max(b) }
-            }
-            (RunOutcome::Failed { .. }, _) => self,
-            (_, RunOutcome::Failed { .. }) => other,
-            (RunOutcome::Cancelled { step: a }, RunOutcome::Cancelled { step: b }) => {
-                RunOutcome::Cancelled { step: a.max(b) }
-            }
-            (RunOutcome::Cancelled { .. }, _) => self,
-            (_, RunOutcome::Cancelled { .. }) => other,
-            (RunOutcome::Success, _) => self,
-            (RunOutcome::NoTestsRun, _) => other,
-        }
+        self.higher(other)
     }
 
     /// Returns the outcome of a repeated run, given the summaries of its sub-runs: the highest of
@@ -107,5 +94,23 @@ impl RunOutcome {
             highest = highest.combine(RunOutcome::from_final_stats(stats.summarize_final()));
         }
         highest
+    }
+
+    /// Returns the higher of two outcomes, by their cases.
+    fn higher(self, other: Self) -> Self {
+        match (self, other) {
+            (RunOutcome::Failed { step: a }, RunOutcome::Failed { step: b }) => {
+                RunOutcome::Failed { step: a.max(b) }
+            }
+            (RunOutcome::Failed { .. }, _) => self,
+            (_, RunOutcome::Failed { .. }) => other,
+            (RunOutcome::Cancelled { step: a }, RunOutcome::Cancelled { step: b }) => {
+                RunOutcome::Cancelled { step: a.max(b) }
+            }
+            (RunOutcome::Cancelled { .. }, _) => self,
+            (_, RunOutcome::Cancelled { .. }) => other,
+            (RunOutcome::Success, _) => self,
+            (RunOutcome::NoTestsRun, _) => other,
+        }
     }
 }

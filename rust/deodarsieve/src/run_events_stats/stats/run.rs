@@ -7,6 +7,11 @@ impl RunStats {
     /// Counts finished units, which can be in any order. The fields of `start` are copied.
     #[must_use]
     pub fn of_run(units: &[FinishedUnit<'_>], start: RunStart) -> RunStats {
+        RunStats::count_units(units, start)
+    }
+
+    /// Counts finished units.
+    fn count_units(units: &[FinishedUnit<'_>], start: RunStart) -> RunStats {
         let mut stats = RunStats {
             initial_run_count: start.initial_run_count,
             setup_scripts_initial_count: start.setup_scripts_initial_count,

@@ -33,7 +33,7 @@ impl TestRun {
     /// Makes the failures of cargo known that wait for the end of the command. If it ended with status 0, they were
     /// prints.
     pub(crate) fn tell_held(&mut self, notes: &mut Vec<Note>) {
-        let held = std::mem::take(&mut self.held);
+        let held = std::mem::replace(&mut self.held, Vec::new());
         if self.command_ended_well() {
             self.causes = self.causes.saturating_sub(held.len());
         } else {

@@ -24,8 +24,13 @@ impl TestRun {
 
     /// Returns the name that is known of the suites of the binary with this path.
     fn known_name(&self, path: Option<&str>) -> Option<String> {
-        let path = path?;
-        self.names.get(path).map(String::from)
+        let Some(path) = path else {
+            return None;
+        };
+        match self.names.get(path) {
+            Some(name) => Some(String::from(name)),
+            None => None,
+        }
     }
 
     /// Takes a print. Fails if memory runs out, or the number of prints does not fit.

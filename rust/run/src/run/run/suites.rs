@@ -60,7 +60,10 @@ impl TestRun {
 
     /// Opens a suite with a key that no open suite has, or without a key if all open suites have one.
     fn open(&mut self, key: Option<String>, test_count: Option<u128>) -> Result<(), RunError> {
-        let heading = self.heading.clone();
+        let heading = match &self.heading {
+            Some(heading) => Some(heading.clone()),
+            None => None,
+        };
         self.suites.open(key, heading, test_count, &self.others)
     }
 
@@ -134,7 +137,10 @@ impl TestRun {
 
 /// Returns the text of a key.
 fn key_text(key: Option<SuiteKey<'_>>) -> Option<String> {
-    key.map(|key| key.to_string())
+    match key {
+        Some(key) => Some(key.to_string()),
+        None => None,
+    }
 }
 
 /// Returns true if a last line says that the suite failed, or counts a test that ran.

@@ -151,7 +151,7 @@ fn number_of_attempts(digits: &str) -> Option<usize> {
         return None;
     }
     let attempts: usize = digits.parse().ok()?;
-    if (2..=MOST_ATTEMPTS).contains(&attempts) {
+    if 2 <= attempts && attempts <= MOST_ATTEMPTS {
         Some(attempts)
     } else {
         None
