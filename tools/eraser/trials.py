@@ -1,4 +1,4 @@
-"""Tests of the eraser: for each rule a sample with its result, and texts that it must refuse.
+"""Tests of the eraser: for each rule a sample with its result, texts that it must refuse, and one explanation.
 
 `samples.txt` has the samples: a line `=== RULE | FILE`, the text, a line `---`, and what it must become.
 `refusals.txt` has the others: a line `=== PART OF THE MESSAGE`, and the text.
@@ -9,6 +9,7 @@ from rust_tokens import tokens_of
 
 from .attributes import refuse_unused_rows, with_serde
 from .entries import entries
+from .explain import written_lines
 from .layout import RULES, erased_texts
 from .places import place_of, refuse_missing_places, with_checks, with_places, without_items
 from .scanner import Refused
@@ -33,6 +34,10 @@ WRONG_TABLES = {
         "pub enum FinalStatusLevel { A(Flaky) }", "run_events_results/src/sample.rt"
     ),
 }
+EXPLAINED = "use crate::a::B;\n/// F.\npub fn f(alloc: Global, b: B) -> u8\n    ensures { a }\n{\n    1\n}\n"
+WRITERS = [
+    "with_first_line (layout.py)", "with_paths (paths.py)", None, "without_allocators (memory.py)", None, None,
+]
 
 
 def run():
@@ -43,6 +48,8 @@ def run():
     failures += [failure for head, body in samples for failure in _sample_failures(head, body)]
     failures += [failure for message, text in refusals for failure in _refusal_failures(message, text)]
     failures += [f"{what} is let through" for what, step in WRONG_TABLES.items() if not _is_refused(step)]
+    writers = written_lines({FILE: EXPLAINED}, FILE)[1]
+    failures += [] if writers == WRITERS else [f"the explanation: {writers}"]
     for line in failures:
         print(f"erase: {line}", file=sys.stderr)
     print(f"erase: {len(samples)} samples, {len(refusals) + len(WRONG_TABLES)} refusals, {len(failures)} failed")
