@@ -6,10 +6,7 @@ from .scanner import Refused, Source
 from .table import LAYER, PACKAGE_OF
 
 # The types that have a row in a table.
-NAMED = (
-    *serde.SERDE, *serde.SERDE_OF_VARIANTS, *types.ADDED_DERIVES, *types.REMOVED_DERIVES, *types.NON_EXHAUSTIVE,
-    *types.CRATE_FIELDS, *types.MUST_USE,
-)
+NAMED = (*serde.SERDE, *types.ADDED_DERIVES, *types.REMOVED_DERIVES, *types.NON_EXHAUSTIVE, *types.MUST_USE)
 ORDER = ("Clone", "Copy", "Debug", "Default", "PartialEq", "Eq", "PartialOrd", "Ord", "Hash")
 
 
@@ -71,11 +68,6 @@ def with_serde(text, name):
         declared = source.at(source.after(i))
         if declared in serde.SERDE:
             source.new[first] = f"{serde.attribute_of(declared)}\n{source.new[first]}"
-        for member, attribute in serde.SERDE_OF_VARIANTS.get(declared, {}).items():
-            found = [k for k in _members(source, i) if source.text[k] == member]
-            if not found:
-                source.refuse(i, f"the table names a variant that is not there: {member}")
-            source.new[found[0]] = f"{attribute}\n{member}"
     return source.result()
 
 
@@ -86,28 +78,6 @@ def refuse_unused_rows(texts, rows=NAMED):
     for row in rows:
         if row not in declared:
             raise Refused(f"a table has a row for a type that is not there: {row}")
-
-
-def _members(source, i):
-    """Yields the names of the variants or fields of the type that is declared at `i`."""
-    brace = source.find(i, "{")
-    at, close = source.after(brace), source.partner[brace]
-    while at != close:
-        while source.at(at) == "#":
-            at = source.after(source.partner[source.after(at)])
-        yield at
-        end = source.find_in(at, close, ",")
-        at = source.after(end) if end != close else close
-
-
-def with_open_fields(text, name):
-    """Returns the text of the file `name` with the private fields of some types visible to files that are by hand."""
-    source = Source(text, name)
-    opened = [i for i, _ in _types(source) if source.at(source.after(i)) in types.CRATE_FIELDS]
-    for field in [field for i in opened for field in _members(source, i)]:
-        if source.text[field] != "pub":
-            source.new[field] = "pub(crate) " + source.new[field]
-    return source.result()
 
 
 def with_must_use(text, name):

@@ -1,8 +1,7 @@
 """Tells which rule of the eraser wrote each line of an erased file that is no line of its source."""
 import difflib
-import subprocess
 
-from .layout import RULES, TOP, sources, target_of
+from .layout import RULES, TOP, formatted, sources, target_of
 from .scanner import Refused
 
 
@@ -31,9 +30,9 @@ def written_lines(texts, name):
         before, texts = texts[name], rule(texts)
         if step == 0:  # the text before it is none of Rust, and so not laid out by `rustfmt`
             lines, writers = _compared(lines, writers, _lines(texts[name]), _title(rule))
-            lines, writers = _compared(lines, writers, _lines(_formatted(texts[name])), "rustfmt")
+            lines, writers = _compared(lines, writers, _lines(formatted(texts[name])), "rustfmt")
         elif texts[name] != before:
-            lines, writers = _compared(lines, writers, _lines(_formatted(texts[name])), _title(rule))
+            lines, writers = _compared(lines, writers, _lines(formatted(texts[name])), _title(rule))
     return lines, writers
 
 
@@ -45,14 +44,6 @@ def _title(rule):
 def _lines(text):
     """Returns the lines of a text without their indentation."""
     return [line.strip() for line in text.splitlines()]
-
-
-def _formatted(text):
-    """Returns one text as `rustfmt` lays it out."""
-    done = subprocess.run(["rustfmt", "--edition", "2024"], input=text, capture_output=True, text=True)
-    if done.returncode:
-        raise Refused("rustfmt: " + done.stderr.strip())
-    return done.stdout
 
 
 def _compared(old, writers, new, writer):

@@ -1,10 +1,10 @@
 """Reads crates/, applies the rules of the eraser, and writes or compares the erased files in rust/."""
 import functools
 import subprocess
-import tempfile
+from concurrent.futures import ThreadPoolExecutor
 from pathlib import Path
 
-from .attributes import refuse_unused_rows, with_derives, with_must_use, with_open_fields, with_serde
+from .attributes import refuse_unused_rows, with_derives, with_must_use, with_serde
 from .cases import without_memory_cases
 from .contracts import without_contracts
 from .documentation import refuse_words_of_proofs, with_errors, with_examples, with_links, without_examples
@@ -35,9 +35,8 @@ def with_first_line(text, name):
 OF_ALL_FILES = (without_items, with_places, with_checks, without_refusals)
 RULES = tuple(rule if rule in OF_ALL_FILES else each(rule) for rule in (
     without_contracts, without_items, with_places, with_checks, without_memory_cases, with_push_str, without_refusals,
-    without_allocators, with_derives, with_serde, with_open_fields, with_must_use, with_links, without_examples,
-    with_examples, with_errors, refuse_words_of_proofs, with_paths, with_names, with_imports_of_alloc, with_pointers,
-    with_first_line,
+    without_allocators, with_derives, with_serde, with_must_use, with_links, without_examples, with_examples,
+    with_errors, refuse_words_of_proofs, with_paths, with_names, with_imports_of_alloc, with_pointers, with_first_line,
 ))
 
 
@@ -52,7 +51,8 @@ def erase_all():
     refuse_missing_places(texts)
     erased = erased_texts(texts)
     refuse_unused_rows(erased)
-    return _formatted({target_of(name): text for name, text in erased.items()})
+    with ThreadPoolExecutor() as pool:
+        return dict(zip(map(target_of, erased), pool.map(formatted, erased.values())))
 
 
 def sources():
@@ -78,20 +78,12 @@ def target_of(name):
     return "/".join([FOLDERS[PACKAGE_OF[crate]], *PATH_OF[crate], *folders, stem + ".rs"])
 
 
-def _formatted(files):
-    """Returns the files as `rustfmt` lays them out."""
-    with tempfile.TemporaryDirectory() as folder:
-        root = Path(folder)
-        for path, text in files.items():
-            target = root / path
-            target.parent.mkdir(parents=True, exist_ok=True)
-            target.write_text(text, encoding="utf-8")
-        roots = [path for path in files if path.count("/") == 3 and path.endswith("/mod.rs")]
-        command = ["rustfmt", "--edition", "2024", *sorted(roots)]
-        done = subprocess.run(command, cwd=root, capture_output=True, text=True)
-        if done.returncode:
-            raise Refused("rustfmt: " + done.stderr.strip())
-        return {path: (root / path).read_text(encoding="utf-8") for path in files}
+def formatted(text):
+    """Returns the text of a file as `rustfmt` lays it out."""
+    done = subprocess.run(["rustfmt", "--edition", "2024"], input=text, capture_output=True, text=True)
+    if done.returncode:
+        raise Refused("rustfmt: " + done.stderr.strip())
+    return done.stdout
 
 
 def _present():

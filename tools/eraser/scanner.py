@@ -97,12 +97,6 @@ class Source:
             i = self.skip(i)
         return i
 
-    def find_in(self, i, end, word):
-        """Returns the first `word` at or after `i`, outside of brackets and angles, or `end`."""
-        while i != end and self.text[i] != word:
-            i = self.after(self.closing_angle(i)) if self.text[i] == "<" else self.skip(i)
-        return i
-
     def closing_angle(self, i):
         """Returns the `>` that closes the `<` at `i`."""
         depth, at = 0, i

@@ -37,9 +37,6 @@ SERDE |= {
     "StressProgress": (BOTH, ', tag = "progress-type"'),
 }
 
-# The attributes of variants: the old name of a level, which configurations still have.
-SERDE_OF_VARIANTS = {"FinalStatusLevel": {"Flaky": '#[cfg_attr(feature = "serde", serde(alias = "retry"))]'}}
-
 
 def attribute_of(name):
     """Returns the attribute of the type `name`, which has a row."""

@@ -7,7 +7,7 @@ import sys
 
 from rust_tokens import tokens_of
 
-from .attributes import refuse_unused_rows, with_serde
+from .attributes import refuse_unused_rows
 from .entries import entries
 from .explain import written_lines
 from .layout import RULES, erased_texts
@@ -30,9 +30,6 @@ WRONG_TABLES = {
     "a check of a function that is not there": lambda: with_checks({FILE: "fn f() {}"}, PLACES),
     "a place of a file that is not there": lambda: refuse_missing_places({}, PLACES),
     "a row for a type that is not there": lambda: refuse_unused_rows({FILE: "pub struct A;"}, ("A", "B")),
-    "a row of `serde` for a variant that is not there": lambda: with_serde(
-        "pub enum FinalStatusLevel { A(Flaky) }", "run_events_results/src/sample.rt"
-    ),
 }
 EXPLAINED = "use crate::a::B;\n/// F.\npub fn f(alloc: Global, b: B) -> u8\n    ensures { a }\n{\n    1\n}\n"
 WRITERS = [

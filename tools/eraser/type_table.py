@@ -44,9 +44,6 @@ NON_EXHAUSTIVE = dict.fromkeys(
     '#[cfg_attr(not(feature = "exhaustive"), non_exhaustive)]',
 ) | dict.fromkeys(("FromValueError", "TestView", "UnitError"), "#[non_exhaustive]")
 
-# Types whose private fields are visible to the files that are written by hand.
-CRATE_FIELDS = ("ChildSingleOutput", "ErrorList", "ExecutionStatuses", "UnitErrorDescription")
-
 # Types that get `must_use`, and types of std that have it.
 MUST_USE = ("RunOutcome",)
 MUST_USE_BY_THEMSELVES = ("ExecutionStatusesIter", "Iter", "Result")
