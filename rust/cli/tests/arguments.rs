@@ -82,6 +82,7 @@ fn test_report_refuses_numbers() {
     let bytes = "neither a number of bytes nor `none`";
     let seconds =
         "not a number of seconds such as 60 or 2.5, with at most nine digits before the point";
+    // The last value of each option is empty.
     let refused = [
         ("--limit", "many 18446744073709551616 None ", bytes),
         ("--slow", "late 1e3 .5 1. 1000000000 ", seconds),
