@@ -111,7 +111,7 @@ pub record IsInOrder (settings : RunSettings) (files : List (List EventView)) : 
   pub no_failed_verdict : failed_verdicts_of files ≡ 0
   -- no damaged line says that a test or a suite failed
   pub no_damaged_line : damaged_lines_of files ≡ 0
-  -- each command ended with status 0
+  -- each command whose end is known ended with status 0
   pub commands : (r : RunState) → IsFileEndOf settings files r → IfSome r.command (λ end. end ≡ WithStatus 0)
   -- each file has an event of a harness, other than the output of a command
   pub events : (r : RunState) → (end : IsFileEndOf settings files r) → r.command ≡ None → 0 < events_in end.file

@@ -44,10 +44,10 @@ pub fn failed_lines_show()
 {}
 
 /// A run with the outcome `Success` or `NoTestsRun` has no last line of a suite with a failed verdict, and no
-/// damaged line that says that a test or a suite failed. Each of its commands ended with status 0, and each of its
-/// other files has an event of a harness. A suite whose last line makes nothing wrong known has skipped each test that
-/// has no end, and ran or skipped as many tests as it announced. If cargo reports a failure while no suite is open,
-/// other than in the output of a command, a failed test or a disagreement becomes known.
+/// damaged line that says that a test or a suite failed. Each of its commands whose end is known ended with status 0,
+/// and each of its other files has an event of a harness. A suite whose last line makes nothing wrong known has skipped
+/// each test that has no end, and ran or skipped as many tests as it announced. If cargo reports a failure while no suite
+/// is open, other than in the output of a command, a failed test or a disagreement becomes known.
 pub fn success_means()
     ensures verdicts { FailedVerdictShows }
     ensures damaged { DamagedLineShows }
@@ -68,9 +68,9 @@ pub fn failure_has_reason()
 /// If the outcome is `Success`, a test passed, and nothing is wrong with the lines of the run: no test
 /// failed, no lines disagree, and no suite has tests that were not run. No line says that a test failed, no
 /// last line of a suite has a failed verdict, and no damaged line says that a test or a suite failed. Each
-/// command ended with status 0, and each other file has an event of a harness. Each last line that ends a suite
-/// agrees with its tests, and each of them ended or was skipped. A last line of a suite that is not open counts no
-/// test that ran. Each suite has its last line, and no test starts outside of a suite. At least as many tests
+/// command whose end is known ended with status 0, and each other file has an event of a harness. Each last line that
+/// ends a suite agrees with its tests, and each of them ended or was skipped. A last line of a suite that is not open
+/// counts no test that ran. Each suite has its last line, and no test starts outside of a suite. At least as many tests
 /// finished or were skipped as were announced. No failure of cargo is read while no suite is open, other than in the
 /// output of a command. If the outcome is `NoTestsRun`, no test passed, and nothing is wrong either.
 pub fn success_is_in_order()
