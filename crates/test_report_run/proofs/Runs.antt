@@ -1,5 +1,5 @@
 -- The steps of a run.
-use Rattle.std.proofs.Common.{Box, Global, String, is_some, ◌==◌, ◌≡◌, ◌∙◌, ◌++◌, ◌<◌, ◌+◌, [], ◌∷◌, Bool, List, ℕ, Option, None, Some, ap, arith, cond, false, nat_lt, not, option_and_then, get_or, length, map, option_map, refl, sym, true}
+use Rattle.std.proofs.Common.{Box, Global, String, is_some, ◌==◌, ◌≡◌, ◌∙◌, ◌++◌, ◌<◌, ◌+◌, [], ◌∷◌, Bool, List, ℕ, Option, None, Some, ap, arith, cond, false, nat_lt, not, option_and_then, get_or, if◌then◌else◌, length, map, option_map, refl, sym, true}
 use Rattle.std.specs.Box.{with_value}
 use Rattle.std.specs.List.{position, remove}
 use Rattle.std.specs.Option.{option_map_or, option_or}
@@ -7,14 +7,17 @@ use Rattle.std.proofs.Math.ListN.{set}
 use Rattle.std.proofs.lemmas.List.{get_or-map, get_or-set_same, map-set}
 use Rattle.std.proofs.lemmas.Option.{none-some}
 use Rattle.test_report_events.specs.Event.{SuiteEndView, TestEndView}
+use Rattle.test_report_events.specs.declared.event.TestResult.{TestResult}
+use Rattle.test_report_events.specs.declared.event.TestResult.TheVariants.{Ok, Failed, Ignored}
 use Rattle.test_report_run_notes.proofs.Places.{remove-set}
 use Rattle.test_report_run_notes.specs.Note.{NoteView, text_view}
-use Rattle.test_report_run.specs.Others.{event_place}
+use Rattle.test_report_run_notes.specs.declared.finish.Finish.TheVariants.{Passed}
+use Rattle.test_report_run.specs.Ended.{after_end, after_flaky, end_notes, timed}
 use Rattle.test_report_run.specs.Over.{EarlyEnd, early_notes, last_notes, nothing_known}
 use Rattle.test_report_run.specs.Run.{RunState, Step, ended_at, ended_early, heard, heard_at, last_place, opened, place_of_number, running_ends, slow_at, started_again, step, stray_ends, suite_at, suite_place, test_over, tests_in, with_suite_at, without_tests}
 use Rattle.test_report_run.specs.Running.{RunningView, ended_at as test_at, running_at, with_slow}
 use Rattle.test_report_run.specs.Name.{before_dollar}
-use Rattle.test_report_run.specs.Suite.{SuiteState, cancelled_by, has_key, joined_by, state_of, with_line}
+use Rattle.test_report_run.specs.Suite.{OverView, SuiteState, cancelled_by, has_key, joined_by, state_of, with_finish, with_line}
 use Rattle.test_report_run.specs.declared.others.EventPlace.{EventPlace}
 use Rattle.test_report_run.specs.declared.suite.Suite.{Suite}
 
@@ -33,21 +36,44 @@ pub suite-at : (r : RunState) (suites : List (Box Suite Global)) (at : ℕ) (pla
 suite-at r suites at place old same inside is found = rw (← is, same) (get_or-map boxed_state suites at old r.outside inside ∙ sym (ap boxed_state found))
 
 pub with_suite-at : (r run : RunState) (suites : List (Box Suite Global)) (at : ℕ) (place : Option ℕ) (old : Box Suite Global) (inside changed : Suite)
-    (event : EventPlace) (f : SuiteState → SuiteState) → r.suites ≡ map boxed_state suites
-    → run ≡ record r { suites = map boxed_state (set suites at (with_value old (record changed { last_event = event }))) } → at < length suites
-    → Some at ≡ place → old ≡ get_or suites at old → inside ≡ old.value → state_of changed ≡ f (state_of inside) → event ≡ event_place r.others
+    (f : SuiteState → SuiteState) → r.suites ≡ map boxed_state suites → run ≡ record r { suites = map boxed_state (set suites at (with_value old changed)) }
+    → at < length suites → Some at ≡ place → old ≡ get_or suites at old → inside ≡ old.value → state_of changed ≡ heard r (f (state_of inside))
     → run ≡ with_suite_at r place (f (suite_at r place))
-with_suite-at r run suites at place old inside changed event f same after within is found opened change last =
-    let changed_box : Box Suite Global = with_value old (record changed { last_event = event }) in
-    let changes : boxed_state changed_box ≡ heard r (f (boxed_state old)) =
-    ap (λ (s : SuiteState). record s { last_event = event }) (change ∙ ap (λ (s : Suite). f (state_of s)) opened)
-    ∙ ap (λ (e : EventPlace). record (f (boxed_state old)) { last_event = e }) last in
+with_suite-at r run suites at place old inside changed f same after within is found opened change =
+    let changed_box : Box Suite Global = with_value old changed in
+    let changes : boxed_state changed_box ≡ heard r (f (boxed_state old)) = change ∙ ap (λ (s : Suite). heard r (f (state_of s))) opened in
     after
     ∙ ap (λ (all : List SuiteState). record r { suites = all })
     (map-set boxed_state suites at changed_box ∙ ap (λ (s : SuiteState). set (map boxed_state suites) at s) changes
     ∙ ap (λ (all : List SuiteState). set all at (heard r (f (boxed_state old)))) (sym same))
     ∙ ap (λ (s : SuiteState). with_suite_at r (Some at) (f s)) (sym (suite-at r suites at place old same within is found))
     ∙ ap (λ (p : Option ℕ). with_suite_at r p (f (suite_at r place))) is
+
+-- a test ends after its suite has an event, or before it
+ended_after-event : (s : SuiteState) (event : EventPlace) (t : OverView) (order : ℕ) (e : TestEndView) (result : TestResult)
+    → after_end (record s { last_event = event }) t order (record e { result = result }) ≡ record (after_end s t order (record e { result = result })) { last_event = event }
+ended_after-event s event t order e Ok = elim (nat_lt 1 t.attempts) as (λ again.
+    (if again then after_flaky (timed (record s { last_event = event }) e) t order e else with_finish (timed (record s { last_event = event }) e) Passed 1 t.slow)
+    ≡ record (if again then after_flaky (timed s e) t order e else with_finish (timed s e) Passed 1 t.slow) { last_event = event }) [
+      | true ↦ refl
+      | false ↦ refl
+    ]
+ended_after-event s event t order e Failed = refl
+ended_after-event s event t order e Ignored = refl
+
+pub end_after-event : (s : SuiteState) (event : EventPlace) (t : OverView) (order : ℕ) (e : TestEndView)
+    → after_end (record s { last_event = event }) t order e ≡ record (after_end s t order e) { last_event = event }
+end_after-event s event t order e = ended_after-event s event t order e e.result
+
+notes_after-event : (s : SuiteState) (event : EventPlace) (t : OverView) (e : TestEndView) (result : TestResult)
+    → end_notes (record s { last_event = event }) t (record e { result = result }) ≡ end_notes s t (record e { result = result })
+notes_after-event s event t e Ok = refl
+notes_after-event s event t e Failed = refl
+notes_after-event s event t e Ignored = refl
+
+pub end_notes-after_event : (s : SuiteState) (event : EventPlace) (t : OverView) (e : TestEndView)
+    → end_notes (record s { last_event = event }) t e ≡ end_notes s t e
+end_notes-after_event s event t e = notes_after-event s event t e e.result
 
 -- a suite is over by its last line
 pub suite-over : (r r1 r2 : RunState) (e : SuiteEndView) (at : ℕ) (s : SuiteState) → at < length r.suites

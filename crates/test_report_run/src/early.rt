@@ -24,13 +24,18 @@ pub struct EarlyEnd {
 }
 
 /// How a suite ends early.
-#[derive(Drop)]
 pub(crate) struct Ending {
     /// How its program ended, if that is known.
     pub(crate) end: Option<ProgramEnd>,
 
     /// The names of the tests that crashed, if not all that ran did.
     pub(crate) crashed: Option<BTreeSet<String>>,
+}
+
+impl Drop for Ending {
+    fn drop(self) {
+        let Ending { end: _, crashed: _ } = self;
+    }
 }
 
 impl EarlyEnd {

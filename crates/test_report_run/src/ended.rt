@@ -1,11 +1,11 @@
 //! The ends of the tests of a suite.
 
-ghost use Rattle.std.specs.Prelude.{◌≡◌, ◌+◌, ◌++◌, [], IfOk, OnOk, map, option_map};
+ghost use Rattle.std.specs.Prelude.{◌≡◌, ◌+◌, ◌++◌, ◌∷◌, [], IfOk, OnOk, map, option_map};
 ghost use Rattle.test_report_events.specs.Event.{test_end_view};
 ghost use Rattle.test_report_events.specs.declared.event.TestResult.TheVariants as ended;
-ghost use Rattle.test_report_run_notes.specs.Note.{failure_view, note_view, text_view};
+ghost use Rattle.test_report_run_notes.specs.Note.{failure_view, note_view, outcome_view, text_view};
 ghost use Rattle.test_report_run.specs.Ended as spec;
-ghost use Rattle.test_report_run.specs.Suite.{over_view, state_of};
+ghost use Rattle.test_report_run.specs.Suite.{over_view, state_of, test_note, with_finish};
 
 use crate::counted::count;
 use crate::error::{RunError, one_more};
@@ -117,12 +117,11 @@ impl Suite {
         if test.attempts > 1 {
             self.push_flaky(alloc, &test, details, notes)?;
             self.on_flaky(alloc, test, order, details)?;
+            Ok(())
         } else {
-            count(&mut self.stats, Finish::Passed, 1, test.slow)?;
             let output = owned(alloc, details.stdout)?;
-            self.push_test(test, TestOutcome::Passed { output }, notes)?;
+            self.push_finished(Finish::Passed, test, TestOutcome::Passed { output }, notes)
         }
-        Ok(())
     }
 
     /// Adds the note that a test passed after several attempts.
@@ -184,13 +183,27 @@ impl Suite {
     {
         self.time = time_sum(self.time, details.time);
         let failure = failure_of(alloc, details)?;
-        count(
-            &mut self.stats,
-            Finish::of_failure(&failure.kind),
-            test.attempts,
-            test.slow,
-        )?;
-        self.push_test(test, TestOutcome::Failed(failure), notes)?;
+        let finish = Finish::of_failure(&failure.kind);
+        self.push_finished(finish, test, TestOutcome::Failed(failure), notes)
+    }
+
+    /// Counts a test that finished, and adds its note. Fails if memory runs out, or a counter is full.
+    pub(crate) fn push_finished(
+        &mut self,
+        finish: Finish,
+        test: OverTest,
+        outcome: TestOutcome,
+        notes: &mut Vec<Note>,
+    ) -> Result<(), RunError>
+        ensures takes { OnOk result (state_of self.new
+            ≡ with_finish (state_of self.old) finish test.attempts test.slow) }
+        ensures tells { OnOk result (map note_view notes.new.items ≡ map note_view notes.old.items
+            ++ test_note (state_of self.old) (over_view test) (outcome_view outcome) ∷ []) }
+        ensures number { self.new.name.number ≡ self.old.name.number }
+        ensures key { text_view self.new.name.key ≡ text_view self.old.name.key }
+    {
+        count(&mut self.stats, finish, test.attempts, test.slow)?;
+        self.push_test(test, outcome, notes)?;
         Ok(())
     }
 

@@ -222,9 +222,13 @@ impl Others {
     ) -> Result<Option<String>, AllocError>
         ensures { IfOk result (λ cause. text_view cause ≡ spec.cause_after (others_view self.now) at) }
     {
-        match self.causes.get(at.causes) {
-            Some(cause) if cause.headings == at.headings => Ok(Some(cause.line.clone()?)),
-            _ => Ok(None),
+        let Some(cause) = self.causes.get(at.causes) else {
+            return Ok(None);
+        };
+        if cause.headings == at.headings {
+            Ok(Some(cause.line.clone()?))
+        } else {
+            Ok(None)
         }
     }
 

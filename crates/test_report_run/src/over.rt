@@ -7,7 +7,6 @@ ghost use Rattle.test_report_run.specs.Over as spec;
 ghost use Rattle.test_report_run.specs.Running.{running_test_view, running_view};
 ghost use Rattle.test_report_run.specs.Suite.{flaky_view, over_view, state_of};
 
-use crate::counted::count;
 use crate::disagreements::push_disagreement;
 use crate::early::Ending;
 use crate::error::{RunError, one_more};
@@ -207,9 +206,9 @@ impl Suite {
             running,
             has_key: self.name.key.is_some(),
             end,
-            cause: others.cause_after(alloc, self.last_event)?,
             prints: Rc::new(alloc, others.prints_from(alloc, self.start)?)?,
             last: others.last_prints_from(alloc, self.start)?,
+            cause: others.cause_after(alloc, self.last_event)?,
             above: false,
         })
     }
@@ -225,15 +224,14 @@ impl Suite {
         ensures tells { OnOk result (map note_view notes.new.items ≡ map note_view notes.old.items
             ++ spec.failed_note (state_of self.old) (kind_view kind) (running_test_view test) ∷ []) }
     {
-        count(&mut self.stats, Finish::Failed, 1, test.slow)?;
         let failure = Failure {
             kind,
             stdout: None,
             message: None,
             reason: None,
         };
-        self.push_test(self.over(test), TestOutcome::Failed(failure), notes)?;
-        Ok(())
+        let over = self.over(test);
+        self.push_finished(Finish::Failed, over, TestOutcome::Failed(failure), notes)
     }
 
     /// Adds the disagreement of a suite that ends early, if there is one.
@@ -311,15 +309,12 @@ impl Suite {
         ensures tells { OnOk result (map note_view notes.new.items ≡ map note_view notes.old.items
             ++ spec.flaky_note (state_of self.old) false (flaky_view flaky) ∷ []) }
     {
-        let (attempts, slow) = (flaky.test.attempts, flaky.test.slow);
-        count(&mut self.stats, Finish::Passed, attempts, slow)?;
         let output = flaky.stdout;
         let test = OverTest {
             cancel: self.cancel,
             ..flaky.test
         };
-        self.push_test(test, TestOutcome::Passed { output }, notes)?;
-        Ok(())
+        self.push_finished(Finish::Passed, test, TestOutcome::Passed { output }, notes)
     }
 
     /// Counts a flaky test as failed.
@@ -330,8 +325,6 @@ impl Suite {
         ensures tells { OnOk result (map note_view notes.new.items ≡ map note_view notes.old.items
             ++ spec.flaky_note (state_of self.old) true (flaky_view flaky) ∷ []) }
     {
-        let (attempts, slow) = (flaky.test.attempts, flaky.test.slow);
-        count(&mut self.stats, Finish::FlakyFailed, attempts, slow)?;
         let failure = Failure {
             kind: FailureKind::Flaky,
             stdout: flaky.stdout,
@@ -342,8 +335,12 @@ impl Suite {
             cancel: self.cancel,
             ..flaky.test
         };
-        self.push_test(test, TestOutcome::Failed(failure), notes)?;
-        Ok(())
+        self.push_finished(
+            Finish::FlakyFailed,
+            test,
+            TestOutcome::Failed(failure),
+            notes,
+        )
     }
 
     /// Ends the suite after its last line, and adds its notes. `left` are its running tests. The suite must not be used
@@ -440,8 +437,10 @@ impl Suite {
     {
         let said = self.said.numbers()?;
         let (passed, failed) = (self.stats.passed, failed_count(&self.stats));
-        let name = self.name.shown()?;
-        if let (Some(suite), true) = (name, disagrees(said, passed, failed)) {
+        if !disagrees(said, passed, failed) {
+            return Ok(());
+        }
+        if let Some(suite) = self.name.shown()? {
             let disagreement = Disagreement::LastLine {
                 suite,
                 said,

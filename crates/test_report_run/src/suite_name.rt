@@ -169,9 +169,11 @@ fn shown_name(
     let Some(number) = number else {
         return Ok(None);
     };
-    if given.is_some() {
-        return Ok(given);
+    match given {
+        Some(given) => Ok(Some(given)),
+        None => {
+            let name = format!(in alloc; "suite {number}")?;
+            Ok(Some(Rc::new(alloc, name)?))
+        }
     }
-    let name = format!(in alloc; "suite {number}")?;
-    Ok(Some(Rc::new(alloc, name)?))
 }

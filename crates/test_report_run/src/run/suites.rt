@@ -74,10 +74,9 @@ impl TestRun {
             (joined_by (spec.suite_at (run_state self.old) (Some at)) test_count)) }
     {
         let place = self.others.event_place();
-        let suite = &mut self.suites.list[at];
-        suite.join(test_count)?;
+        let suite = &mut *self.suites.list[at];
         suite.last_event = place;
-        Ok(())
+        suite.join(test_count)
     }
 
     /// Removes the open suite at a position, and returns it.
@@ -171,10 +170,9 @@ impl TestRun {
             ≡ ((with_line (spec.suite_at (run_state self.old) (Some at)) (suite_end_view end.entry)).open_lines == 0)) }
     {
         let place = self.others.event_place();
-        let suite = &mut self.suites.list[at];
-        let is_over = suite.on_last_line(end)?;
+        let suite = &mut *self.suites.list[at];
         suite.last_event = place;
-        Ok(is_over)
+        suite.on_last_line(end)
     }
 
     /// Ends a suite that has its last line.

@@ -1,8 +1,8 @@
 //! The starts and the ends of tests.
 
-ghost use Rattle.std.specs.Prelude.{◌≡◌, ◌<◌, ◌+◌, ◌++◌, ◌||◌, [], IfOk, OnOk, map};
+ghost use Rattle.std.specs.Prelude.{◌≡◌, ◌<◌, ◌+◌, ◌++◌, ◌∷◌, ◌||◌, [], IfOk, OnOk, map};
 ghost use Rattle.test_report_events.specs.Event.{TestEnds, test_end_view};
-ghost use Rattle.test_report_run_notes.specs.Note.{note_view};
+ghost use Rattle.test_report_run_notes.specs.Note.{Disagrees, StrayEnds, note_view};
 ghost use Rattle.test_report_run.specs.Run as spec;
 ghost use Rattle.test_report_run.specs.Run.{run_state};
 ghost use Rattle.test_report_run.specs.Running.{running_test_view};
@@ -12,7 +12,7 @@ use crate::error::{RunError, one_more};
 use crate::run::TestRun;
 use crate::running::RunningTest;
 use crate::suite::OverTest;
-use std::alloc::Global;
+use std::alloc::{AllocError, Global};
 use test_report_events::event::{TestDetails, TestResult};
 use test_report_run_notes::note::{Disagreement, Note};
 
@@ -34,14 +34,15 @@ impl TestRun {
         let place = self.others.event_place();
         match self.suite_of(name) {
             Some(at) => {
-                let suite = &mut self.suites.list[at];
-                suite.on_start(alloc, name)?;
+                let suite = &mut *self.suites.list[at];
+                let number = suite.name.number;
                 suite.last_event = place;
-                Ok(suite.name.number)
+                suite.on_start(alloc, name)?;
+                Ok(number)
             }
             None => {
-                self.outside.on_start(alloc, name)?;
                 self.outside.last_event = place;
+                self.outside.on_start(alloc, name)?;
                 Ok(self.outside.name.number)
             }
         }
@@ -177,16 +178,13 @@ impl TestRun {
         let event = self.others.event_place();
         match place {
             Some(at) => {
-                let suite = &mut self.suites.list[at];
-                suite.on_end(alloc, over, order, end, details, notes)?;
+                let suite = &mut *self.suites.list[at];
                 suite.last_event = event;
-                Ok(())
+                suite.on_end(alloc, over, order, end, details, notes)
             }
             None => {
-                self.outside
-                    .on_end(alloc, over, order, end, details, notes)?;
                 self.outside.last_event = event;
-                Ok(())
+                self.outside.on_end(alloc, over, order, end, details, notes)
             }
         }
     }
@@ -206,14 +204,18 @@ impl TestRun {
         ensures tells { OnOk result (map note_view notes.new.items ≡ map note_view notes.old.items
             ++ (spec.stray_ends (run_state self.old) (test_end_view name.now end details.entry)).notes) }
     {
-        if end != TestResult::Ok {
-            self.count_stray(alloc, name, end, details, notes)?;
+        match end {
+            TestResult::Ok => {
+                push_stray_end(alloc, name, end, notes)?;
+                Ok(())
+            }
+            TestResult::Failed => {
+                self.count_stray(alloc, name, end, details, notes)?;
+                push_stray_end(alloc, name, end, notes)?;
+                Ok(())
+            }
+            TestResult::Ignored => self.count_stray(alloc, name, end, details, notes),
         }
-        if end != TestResult::Ignored {
-            let name = String::from_str(alloc, name)?;
-            push_disagreement(Disagreement::StrayEnd { name, result: end }, notes)?;
-        }
-        Ok(())
     }
 
     /// Counts the end of a test that is not running.
@@ -242,16 +244,28 @@ impl TestRun {
         let event = self.others.event_place();
         match self.suite_of(name) {
             Some(at) => {
-                let suite = &mut self.suites.list[at];
-                suite.on_stray_end(alloc, test, end, details, notes)?;
+                let suite = &mut *self.suites.list[at];
                 suite.last_event = event;
-                Ok(())
+                suite.on_stray_end(alloc, test, end, details, notes)
             }
             None => {
-                self.outside.on_stray_end(alloc, test, end, details, notes)?;
                 self.outside.last_event = event;
-                Ok(())
+                self.outside.on_stray_end(alloc, test, end, details, notes)
             }
         }
     }
+}
+
+/// Adds the disagreement of a test that ends and is not running.
+fn push_stray_end(
+    alloc: Global,
+    name: &str,
+    end: TestResult,
+    notes: &mut Vec<Note>,
+) -> Result<(), AllocError>
+    ensures { OnOk result (map note_view notes.new.items ≡ map note_view notes.old.items
+        ++ Disagrees (StrayEnds name.now end) ∷ []) }
+{
+    let name = String::from_str(alloc, name)?;
+    push_disagreement(Disagreement::StrayEnd { name, result: end }, notes)
 }

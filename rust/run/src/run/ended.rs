@@ -77,12 +77,11 @@ impl Suite {
         if test.attempts > 1 {
             self.push_flaky(&test, details, notes);
             self.on_flaky(test, order, details);
+            Ok(())
         } else {
-            count(&mut self.stats, Finish::Passed, 1, test.slow)?;
             let output = owned(details.stdout);
-            self.push_test(test, TestOutcome::Passed { output }, notes);
+            self.push_finished(Finish::Passed, test, TestOutcome::Passed { output }, notes)
         }
-        Ok(())
     }
 
     /// Adds the note that a test passed after several attempts.
@@ -115,13 +114,20 @@ impl Suite {
     ) -> Result<(), RunError> {
         self.time = time_sum(self.time, details.time);
         let failure = failure_of(details);
-        count(
-            &mut self.stats,
-            Finish::of_failure(&failure.kind),
-            test.attempts,
-            test.slow,
-        )?;
-        self.push_test(test, TestOutcome::Failed(failure), notes);
+        let finish = Finish::of_failure(&failure.kind);
+        self.push_finished(finish, test, TestOutcome::Failed(failure), notes)
+    }
+
+    /// Counts a test that finished, and adds its note. Fails if memory runs out, or a counter is full.
+    pub(crate) fn push_finished(
+        &mut self,
+        finish: Finish,
+        test: OverTest,
+        outcome: TestOutcome,
+        notes: &mut Vec<Note>,
+    ) -> Result<(), RunError> {
+        count(&mut self.stats, finish, test.attempts, test.slow)?;
+        self.push_test(test, outcome, notes);
         Ok(())
     }
 

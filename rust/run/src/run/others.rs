@@ -158,9 +158,13 @@ impl Others {
 
     /// Returns the first cause after an event, unless a heading came between them.
     pub(crate) fn cause_after(&self, at: EventPlace) -> Option<String> {
-        match self.causes.get(at.causes) {
-            Some(cause) if cause.headings == at.headings => Some(cause.line.clone()),
-            _ => None,
+        let Some(cause) = self.causes.get(at.causes) else {
+            return None;
+        };
+        if cause.headings == at.headings {
+            Some(cause.line.clone())
+        } else {
+            None
         }
     }
 

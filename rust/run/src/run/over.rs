@@ -6,7 +6,6 @@ use crate::notes::finish::Finish;
 use crate::notes::note::{
     Crash, Disagreement, Failure, FailureKind, NotRun, Note, SuiteNote, TestOutcome, failed_count,
 };
-use crate::run::counted::count;
 use crate::run::disagreements::push_disagreement;
 use crate::run::early::Ending;
 use crate::run::error::{RunError, one_more};
@@ -150,9 +149,9 @@ impl Suite {
             running,
             has_key: self.name.key.is_some(),
             end,
-            cause: others.cause_after(self.last_event),
             prints: Rc::new(others.prints_from(self.start)),
             last: others.last_prints_from(self.start),
+            cause: others.cause_after(self.last_event),
             above: false,
         }
     }
@@ -164,15 +163,14 @@ impl Suite {
         kind: FailureKind,
         notes: &mut Vec<Note>,
     ) -> Result<(), RunError> {
-        count(&mut self.stats, Finish::Failed, 1, test.slow)?;
         let failure = Failure {
             kind,
             stdout: None,
             message: None,
             reason: None,
         };
-        self.push_test(self.over(test), TestOutcome::Failed(failure), notes);
-        Ok(())
+        let over = self.over(test);
+        self.push_finished(Finish::Failed, over, TestOutcome::Failed(failure), notes)
     }
 
     /// Adds the disagreement of a suite that ends early, if there is one.
@@ -218,21 +216,16 @@ impl Suite {
 
     /// Counts a flaky test as passed.
     fn pass_flaky(&mut self, flaky: FlakyTest, notes: &mut Vec<Note>) -> Result<(), RunError> {
-        let (attempts, slow) = (flaky.test.attempts, flaky.test.slow);
-        count(&mut self.stats, Finish::Passed, attempts, slow)?;
         let output = flaky.stdout;
         let test = OverTest {
             cancel: self.cancel,
             ..flaky.test
         };
-        self.push_test(test, TestOutcome::Passed { output }, notes);
-        Ok(())
+        self.push_finished(Finish::Passed, test, TestOutcome::Passed { output }, notes)
     }
 
     /// Counts a flaky test as failed.
     fn fail_flaky(&mut self, flaky: FlakyTest, notes: &mut Vec<Note>) -> Result<(), RunError> {
-        let (attempts, slow) = (flaky.test.attempts, flaky.test.slow);
-        count(&mut self.stats, Finish::FlakyFailed, attempts, slow)?;
         let failure = Failure {
             kind: FailureKind::Flaky,
             stdout: flaky.stdout,
@@ -243,8 +236,12 @@ impl Suite {
             cancel: self.cancel,
             ..flaky.test
         };
-        self.push_test(test, TestOutcome::Failed(failure), notes);
-        Ok(())
+        self.push_finished(
+            Finish::FlakyFailed,
+            test,
+            TestOutcome::Failed(failure),
+            notes,
+        )
     }
 
     /// Ends the suite after its last line, and adds its notes. `left` are its running tests. The suite must not be used
@@ -314,8 +311,10 @@ impl Suite {
     fn push_last_line(&self, notes: &mut Vec<Note>) -> Result<(), RunError> {
         let said = self.said.numbers()?;
         let (passed, failed) = (self.stats.passed, failed_count(&self.stats));
-        let name = self.name.shown();
-        if let (Some(suite), true) = (name, disagrees(said, passed, failed)) {
+        if !disagrees(said, passed, failed) {
+            return Ok(());
+        }
+        if let Some(suite) = self.name.shown() {
             let disagreement = Disagreement::LastLine {
                 suite,
                 said,

@@ -119,9 +119,11 @@ fn shown_name(number: Option<usize>, given: Option<Rc<String>>) -> Option<Rc<Str
     let Some(number) = number else {
         return None;
     };
-    if given.is_some() {
-        return given;
+    match given {
+        Some(given) => Some(given),
+        None => {
+            let name = format!("suite {number}");
+            Some(Rc::new(name))
+        }
     }
-    let name = format!("suite {number}");
-    Some(Rc::new(name))
 }

@@ -47,10 +47,9 @@ impl TestRun {
     /// Adds a first line to the open suite at a position.
     fn join(&mut self, test_count: Option<u128>, at: usize) -> Result<(), RunError> {
         let place = self.others.event_place();
-        let suite = &mut self.suites.list[at];
-        suite.join(test_count)?;
+        let suite = &mut *self.suites.list[at];
         suite.last_event = place;
-        Ok(())
+        suite.join(test_count)
     }
 
     /// Removes the open suite at a position, and returns it.
@@ -109,10 +108,9 @@ impl TestRun {
     /// Adds a last line to the open suite at a position. Returns true if the suite is over.
     fn add_last_line(&mut self, end: SuiteEnd<'_>, at: usize) -> Result<bool, RunError> {
         let place = self.others.event_place();
-        let suite = &mut self.suites.list[at];
-        let is_over = suite.on_last_line(end)?;
+        let suite = &mut *self.suites.list[at];
         suite.last_event = place;
-        Ok(is_over)
+        suite.on_last_line(end)
     }
 
     /// Ends a suite that has its last line.

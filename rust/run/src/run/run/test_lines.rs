@@ -21,14 +21,15 @@ impl TestRun {
         let place = self.others.event_place();
         match self.suite_of(name) {
             Some(at) => {
-                let suite = &mut self.suites.list[at];
-                suite.on_start(name)?;
+                let suite = &mut *self.suites.list[at];
+                let number = suite.name.number;
                 suite.last_event = place;
-                Ok(suite.name.number)
+                suite.on_start(name)?;
+                Ok(number)
             }
             None => {
-                self.outside.on_start(name)?;
                 self.outside.last_event = place;
+                self.outside.on_start(name)?;
                 Ok(self.outside.name.number)
             }
         }
@@ -135,15 +136,13 @@ impl TestRun {
         let event = self.others.event_place();
         match place {
             Some(at) => {
-                let suite = &mut self.suites.list[at];
-                suite.on_end(over, order, end, details, notes)?;
+                let suite = &mut *self.suites.list[at];
                 suite.last_event = event;
-                Ok(())
+                suite.on_end(over, order, end, details, notes)
             }
             None => {
-                self.outside.on_end(over, order, end, details, notes)?;
                 self.outside.last_event = event;
-                Ok(())
+                self.outside.on_end(over, order, end, details, notes)
             }
         }
     }
@@ -157,14 +156,18 @@ impl TestRun {
         details: TestDetails<'_>,
         notes: &mut Vec<Note>,
     ) -> Result<(), RunError> {
-        if end != TestResult::Ok {
-            self.count_stray(name, end, details, notes)?;
+        match end {
+            TestResult::Ok => {
+                push_stray_end(name, end, notes);
+                Ok(())
+            }
+            TestResult::Failed => {
+                self.count_stray(name, end, details, notes)?;
+                push_stray_end(name, end, notes);
+                Ok(())
+            }
+            TestResult::Ignored => self.count_stray(name, end, details, notes),
         }
-        if end != TestResult::Ignored {
-            let name = String::from(name);
-            push_disagreement(Disagreement::StrayEnd { name, result: end }, notes);
-        }
-        Ok(())
     }
 
     /// Counts the end of a test that is not running.
@@ -187,16 +190,20 @@ impl TestRun {
         let event = self.others.event_place();
         match self.suite_of(name) {
             Some(at) => {
-                let suite = &mut self.suites.list[at];
-                suite.on_stray_end(test, end, details, notes)?;
+                let suite = &mut *self.suites.list[at];
                 suite.last_event = event;
-                Ok(())
+                suite.on_stray_end(test, end, details, notes)
             }
             None => {
-                self.outside.on_stray_end(test, end, details, notes)?;
                 self.outside.last_event = event;
-                Ok(())
+                self.outside.on_stray_end(test, end, details, notes)
             }
         }
     }
+}
+
+/// Adds the disagreement of a test that ends and is not running.
+fn push_stray_end(name: &str, end: TestResult, notes: &mut Vec<Note>) {
+    let name = String::from(name);
+    push_disagreement(Disagreement::StrayEnd { name, result: end }, notes);
 }

@@ -1,10 +1,9 @@
 -- A test counts in the suite that it belongs to.
 use Rattle.std.proofs.Common.{◌<◌, ◌∙◌, ap, arith, length, refl}
 use Rattle.std.proofs.lemmas.Grind.{common_steps}
-use Rattle.test_report_run_notes.specs.Note.{text_view}
 use Rattle.test_report_run.specs.Run.{run_state, suite_place}
 use Rattle.test_report_run.specs.Suite.{state_of, with_start}
-use Rattle.test_report_run.specs.declared.suite.Suite.{Suite}
+use Rattle.test_report_run.specs.declared.others.EventPlace.{EventPlace}
 use Rattle.test_report_run.proofs.OpenSteps.{key-kept, number-kept}
 use Rattle.test_report_run.proofs.Runs.{with_suite-at}
 use Rattle.test_report_run.proofs.run.TestRun.count_start.Goals as goal
@@ -12,39 +11,23 @@ use Rattle.test_report_run.proofs.run.TestRun.count_start.Goals as goal
 pub invariant_of-self : goal.invariant_of-self
 invariant_of-self c =
     let o = c.args.self.now.suites in
-    let old = c.index_mut-suite.result.now in
-    let inside = c.deref_mut.result.now in
+    let old = c.index_mut.result.now in
+    let inside = c.deref_mut-suite.result.now in
     let kept = c.on_start.ensures in
     record {
       numbered = number-kept o.list.items c.in-Some.at old inside c.on_start.new.self
-          c.index_mut-suite.ensures.value c.deref_mut.ensures.value kept.number ∙ o.numbered;
+          c.index_mut.ensures.value c.deref_mut-suite.ensures.value kept.number ∙ o.numbered;
       rising = o.rising;
       below = o.below;
       keyed = rw (key-kept o.list.items c.in-Some.at old inside c.on_start.new.self
-          c.index_mut-suite.ensures.value c.deref_mut.ensures.value kept.key) o.keyed;
-    }
-
-pub invariant_of-self-in-Some : goal.invariant_of-self-in-Some
-invariant_of-self-in-Some c =
-    let o = c.args.self.now.suites in
-    let old = c.index_mut-suite.result.now in
-    let inside = c.deref_mut.result.now in
-    let kept = c.on_start.ensures in
-    let last = c.deref_mut-in-Some.ensures.value in
-    record {
-      numbered = number-kept o.list.items c.in-Some.at old inside (record (c.deref_mut-in-Some.result.now) { last_event = c.event_place-place.result })
-          c.index_mut-suite.ensures.value c.deref_mut.ensures.value (ap (λ (s : Suite). s.name.number) last ∙ kept.number) ∙ o.numbered;
-      rising = o.rising;
-      below = o.below;
-      keyed = rw (key-kept o.list.items c.in-Some.at old inside (record (c.deref_mut-in-Some.result.now) { last_event = c.event_place-place.result })
-          c.index_mut-suite.ensures.value c.deref_mut.ensures.value (ap (λ (s : Suite). text_view s.name.key) last ∙ kept.key)) o.keyed;
+          c.index_mut.ensures.value c.deref_mut-suite.ensures.value kept.key) o.keyed;
     }
 
 pub returns-in_ok-on_start-in-Some-clause-counts : goal.returns-in_ok-on_start-in-Some-clause-counts
 returns-in_ok-on_start-in-Some-clause-counts c =
     let r = run_state c.args.self.now in
+    let s = state_of c.deref_mut-suite.result.now in
     let inside : c.in-Some.at < length c.args.self.now.suites.list.items = grind (arith, common_steps) in
-    with_suite-at r _ c.args.self.now.suites.list.items c.in-Some.at (suite_place r c.args.name.now) c.index_mut-suite.result.now c.deref_mut.result.now
-    c.deref_mut-in-Some.result.now c.event_place-place.result
-    (λ s. with_start s c.args.name.now) refl refl inside c.in-Some.ensures c.index_mut-suite.ensures.value c.deref_mut.ensures.value
-    (ap state_of c.deref_mut-in-Some.ensures.value ∙ c.in_ok-on_start-in-Some.ensures.takes) c.event_place-place.ensures
+    with_suite-at r _ c.args.self.now.suites.list.items c.in-Some.at (suite_place r c.args.name.now) c.index_mut.result.now c.deref_mut-suite.result.now
+    c.on_start.new.self (λ s. with_start s c.args.name.now) refl refl inside c.in-Some.ensures c.index_mut.ensures.value c.deref_mut-suite.ensures.value
+    (c.in_ok-on_start-in-Some.ensures.takes ∙ ap (λ (e : EventPlace). record (with_start s c.args.name.now) { last_event = e }) c.event_place-place.ensures)
