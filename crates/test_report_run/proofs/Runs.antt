@@ -13,6 +13,7 @@ use Rattle.test_report_run_notes.proofs.Places.{remove-set}
 use Rattle.test_report_run_notes.specs.Note.{NoteView, text_view}
 use Rattle.test_report_run_notes.specs.declared.finish.Finish.TheVariants.{Passed}
 use Rattle.test_report_run.specs.Ended.{after_end, after_flaky, end_notes, timed}
+use Rattle.test_report_run.specs.Others.{event_place}
 use Rattle.test_report_run.specs.Over.{EarlyEnd, early_notes, last_notes, nothing_known}
 use Rattle.test_report_run.specs.Run.{RunState, Step, ended_at, ended_early, heard, heard_at, last_place, opened, place_of_number, running_ends, slow_at, started_again, step, stray_ends, suite_at, suite_place, test_over, tests_in, with_suite_at, without_tests}
 use Rattle.test_report_run.specs.Running.{RunningView, ended_at as test_at, running_at, with_slow}
@@ -49,6 +50,12 @@ with_suite-at r run suites at place old inside changed f same after within is fo
     ∙ ap (λ (s : SuiteState). with_suite_at r (Some at) (f s)) (sym (suite-at r suites at place old same within is found))
     ∙ ap (λ (p : Option ℕ). with_suite_at r p (f (suite_at r place))) is
 
+-- the tests outside of a suite change, and have an event
+pub with_outside : (r run : RunState) (place : Option ℕ) (changed : Suite) (f : SuiteState → SuiteState) → run ≡ record r { outside = state_of changed }
+    → None ≡ place → state_of changed ≡ heard r (f r.outside) → run ≡ with_suite_at r place (f (suite_at r place))
+with_outside r run place changed f after none change =
+    after ∙ ap (λ (s : SuiteState). record r { outside = s }) change ∙ ap (λ (p : Option ℕ). with_suite_at r p (f (suite_at r p))) none
+
 -- a test ends after its suite has an event, or before it
 ended_after-event : (s : SuiteState) (event : EventPlace) (t : OverView) (order : ℕ) (e : TestEndView) (result : TestResult)
     → after_end (record s { last_event = event }) t order (record e { result = result }) ≡ record (after_end s t order (record e { result = result })) { last_event = event }
@@ -61,9 +68,11 @@ ended_after-event s event t order e Ok = elim (nat_lt 1 t.attempts) as (λ again
 ended_after-event s event t order e Failed = refl
 ended_after-event s event t order e Ignored = refl
 
-pub end_after-event : (s : SuiteState) (event : EventPlace) (t : OverView) (order : ℕ) (e : TestEndView)
-    → after_end (record s { last_event = event }) t order e ≡ record (after_end s t order e) { last_event = event }
-end_after-event s event t order e = ended_after-event s event t order e e.result
+-- a suite that has an event and then the end of a test, in the run
+pub heard-end : (r : RunState) (s after : SuiteState) (t : OverView) (order : ℕ) (e : TestEndView) (event : EventPlace)
+    → after ≡ after_end (record s { last_event = event }) t order e → event ≡ event_place r.others → after ≡ heard r (after_end s t order e)
+heard-end r s after t order e event takes last =
+    takes ∙ ended_after-event s event t order e e.result ∙ ap (λ (p : EventPlace). record (after_end s t order e) { last_event = p }) last
 
 notes_after-event : (s : SuiteState) (event : EventPlace) (t : OverView) (e : TestEndView) (result : TestResult)
     → end_notes (record s { last_event = event }) t (record e { result = result }) ≡ end_notes s t (record e { result = result })
