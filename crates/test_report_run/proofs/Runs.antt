@@ -58,9 +58,11 @@ with_outside r run place changed f after none change =
 
 -- a test ends after its suite has an event, or before it
 ended_after-event : (s : SuiteState) (event : EventPlace) (t : OverView) (order : ℕ) (e : TestEndView) (result : TestResult)
-    → after_end (record s { last_event = event }) t order (record e { result = result }) ≡ record (after_end s t order (record e { result = result })) { last_event = event }
+    → after_end (record s { last_event = event }) t order (record e { result = result })
+    ≡ record (after_end s t order (record e { result = result })) { last_event = event }
 ended_after-event s event t order e Ok = elim (nat_lt 1 t.attempts) as (λ again.
-    (if again then after_flaky (timed (record s { last_event = event }) e) t order e else with_finish (timed (record s { last_event = event }) e) Passed 1 t.slow)
+    (if again then after_flaky (timed (record s { last_event = event }) e) t order e
+    else with_finish (timed (record s { last_event = event }) e) Passed 1 t.slow)
     ≡ record (if again then after_flaky (timed s e) t order e else with_finish (timed s e) Passed 1 t.slow) { last_event = event }) [
       | true ↦ refl
       | false ↦ refl

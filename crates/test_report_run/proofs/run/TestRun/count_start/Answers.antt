@@ -44,4 +44,5 @@ pub returns-in_ok-on_start-in-None-clause-counts : goal.returns-in_ok-on_start-i
 returns-in_ok-on_start-in-None-clause-counts c =
     let r = run_state c.args.self.now in
     with_outside r _ (suite_place r c.args.name.now) c.on_start-in-None.new.self (λ s. with_start s c.args.name.now) refl c.in-None.ensures
-    (c.in_ok-on_start-in-None.ensures.takes ∙ ap (λ (e : EventPlace). record (with_start r.outside c.args.name.now) { last_event = e }) c.event_place-place.ensures)
+    (c.in_ok-on_start-in-None.ensures.takes
+    ∙ ap (λ (e : EventPlace). record (with_start r.outside c.args.name.now) { last_event = e }) c.event_place-place.ensures)

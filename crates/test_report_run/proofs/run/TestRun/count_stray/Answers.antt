@@ -28,7 +28,8 @@ stray-counted r s after e t event takes last same =
 
 -- its notes
 stray-noted : (r : RunState) (s place : SuiteState) (notes after : List NoteView) (e : TestEndView) (t : OverView) (event : EventPlace)
-    → after ≡ notes ++ stray_notes (record s { last_event = event }) t e → t ≡ stray_over r e → s ≡ place → after ≡ notes ++ stray_notes place (stray_over r e) e
+    → after ≡ notes ++ stray_notes (record s { last_event = event }) t e → t ≡ stray_over r e → s ≡ place
+    → after ≡ notes ++ stray_notes place (stray_over r e) e
 stray-noted r s place notes after e t event tells same at =
     tells ∙ ap (λ (all : List NoteView). notes ++ all) (end_notes-after_event (named s t.name) event t e)
     ∙ ap (λ (t : OverView). notes ++ stray_notes s t e) same ∙ ap (λ (s : SuiteState). notes ++ stray_notes s (stray_over r e) e) at
