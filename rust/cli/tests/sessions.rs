@@ -153,6 +153,11 @@ fn options() {
 
 #[test]
 fn screens() {
+    let script = Command::new("script").arg("--version").output();
+    assert!(
+        script.is_ok(),
+        "install `script` of util-linux, which runs a command on a terminal"
+    );
     assert_session(include_str!("sessions/screens.txt"));
 }
 
