@@ -10,6 +10,7 @@ as there are processors and memory. All else is as in `rt ci`: the words that it
 meet, both compilers, and the runs of programs.
 """
 
+import contextlib
 import hashlib
 import importlib.machinery
 import importlib.util
@@ -23,6 +24,8 @@ import compiler
 
 # What the prover adds to a verdict over such a folder.
 KEPT = " incremental=trusted"
+# The tools that decide what becomes of an edit.
+TOOLS = ("kept_ci.py", "must-fail", "compiler.py", "crate_list.py")
 
 
 def loaded(path):
@@ -53,14 +56,19 @@ class Edits:
         self.earlier, self.results = {}, {}
 
     def name_of(self, name):
-        """Returns the name under which the result of an edit is kept."""
-        made_from = self.kept.key(self.crate) + hashlib.sha256(Path(self.must_fail.__file__).read_bytes()).hexdigest()
-        return self.kept.of_edit(f"{self.crate.folder}/must-fail/{name}", made_from)
+        """Returns the name under which the result of an edit is kept: a sum of all that the result depends on."""
+        made_from = hashlib.sha256(self.kept.key(self.crate).encode())
+        for tool in TOOLS:
+            made_from.update(Path(compiler.TOP, "tools", tool).read_bytes())
+        return self.kept.of_edit(f"{self.crate.folder}/must-fail/{name}", made_from.hexdigest())
 
     def try_all(self, origin):
         """Tries the edits that no earlier run has tried."""
-        found = {name: self.kept.tried(self.name_of(name)) for name in self.names}
-        self.earlier = {name: result for name, result in found.items() if result}
+        for name in self.names:
+            # One that cannot be read is tried below, which says why it cannot be.
+            with contextlib.suppress(OSError):
+                if found := self.kept.tried(self.name_of(name)):
+                    self.earlier[name] = found
         left = [name for name in self.names if name not in self.earlier]
         kept = compiler.kept(self.crate.name)
         if left and not os.path.isdir(kept) and os.path.isdir(f"{origin}/crates/{self.crate.name}/out/incremental"):
@@ -71,6 +79,18 @@ class Edits:
             self.results[name] = (self.rt.REFUSED if is_refused else self.rt.MISSED, line)
             if is_refused and self.kept.is_untouched(self.crate):
                 self.kept.keep_tried(self.name_of(name), *self.results[name])
+
+
+def end_checks_on_signals(must_fail):
+    """Has a signal that ends this process first end the checks of edits."""
+
+    def end(number, _frame):
+        must_fail.interrupt(number, None)
+        signal.signal(number, signal.SIG_DFL)
+        os.kill(os.getpid(), number)
+
+    for number in (signal.SIGINT, signal.SIGTERM, signal.SIGHUP):
+        signal.signal(number, end)
 
 
 def main(origin, *words):
@@ -84,6 +104,8 @@ def main(origin, *words):
     rt.rtlib.VERDICT = Verdict(rt.rtlib.VERDICT)
     # A plain `rt ci` takes no library that was built here, and none that it built is taken here.
     rt.own_sum = lambda crate: own_sum(crate) + KEPT
+    # `rt` takes no file with another name for an edit, and that fails nothing.
+    rt.edits_of = lambda crate: (must_fail.paths_of(crate.name), [])
 
     def prove_and_keep(crate, *commands):
         if crate.is_program:
@@ -105,13 +127,7 @@ def main(origin, *words):
         tasks[crate.name, "edits"] = (waits, 0, rt.OVER * rt.need(crate), try_all)
         return lambda _given: [edits.results[name] for name in edits.names], lambda: edits.earlier
 
-    def end(number, _frame):
-        must_fail.interrupt(number, None)
-        signal.signal(number, signal.SIG_DFL)
-        os.kill(os.getpid(), number)
-
-    for number in (signal.SIGINT, signal.SIGTERM, signal.SIGHUP):
-        signal.signal(number, end)
+    end_checks_on_signals(must_fail)
     rt.Crate.prove, rt.add_edits = prove_and_keep, add_edits
     return rt.main(["ci", *words])
 

@@ -2,9 +2,8 @@
 import re
 
 from .entries import entries
-from .functions import functions_of
 from .scanner import Source
-from .table import ERRORS, LAYER, PACKAGE_OF, PATH_OF, WORDS_OF_PROOFS
+from .table import ERRORS, PATH_OF, WORDS_OF_PROOFS
 
 DOCS = ("///", "//!")
 

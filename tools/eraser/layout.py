@@ -80,7 +80,10 @@ def target_of(name):
 
 def formatted(text):
     """Returns the text of a file as `rustfmt` lays it out."""
-    done = subprocess.run(["rustfmt", "--edition", "2024"], input=text, capture_output=True, text=True)
+    try:
+        done = subprocess.run(["rustfmt", "--edition", "2024"], input=text, capture_output=True, text=True)
+    except OSError as error:
+        raise Refused("install rustfmt, which comes with Rust") from error
     if done.returncode:
         raise Refused("rustfmt: " + done.stderr.strip())
     return done.stdout

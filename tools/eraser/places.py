@@ -5,7 +5,7 @@ from typing import NamedTuple
 
 from .entries import entries
 from .functions import functions_of
-from .scanner import CLOSING, Refused, Source
+from .scanner import Refused, Source
 
 TRACKED = "#[track_caller]"  # a panic then names the place of the call
 
@@ -58,17 +58,23 @@ def _applied(texts, places, kind, edit):
 
 
 def refuse_missing_places(texts, places=PLACES):
-    """Refuses a public `requires` without a place, and a place without its file. `texts` have contracts."""
+    """Refuses a public `requires` without a place, and a place without its file or function. `texts` have contracts."""
     for place in places:
+        if place.kind not in ("", "drop", "panics", "unchecked"):
+            raise Refused(f"{place.file}: the table has no kind `{place.kind}`")
         if place.file not in texts:
             raise Refused(f"{place.file}: the table has a place of a file that is not there")
-    rows = {(place.file, place.function) for place in places}
+    rows = {(place.file, place.function) for place in places if place.kind in ("panics", "unchecked")}
+    left = set(rows)
     for name, text in texts.items():
         source = Source(text, name)
         for function in functions_of(source):
+            left.discard((name, function.path))
             is_public = function.is_public or function.is_of_public_trait
             if is_public and function.has_condition and (name, function.path) not in rows:
                 source.refuse(function.fn_token, f"`{function.path}` has a `requires` and no place in the table")
+    for name, path in left:
+        raise Refused(f"{name}: the table has a function that is not there: {path}")
 
 
 def _without_item(text, place):

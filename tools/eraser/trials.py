@@ -11,7 +11,7 @@ from .attributes import refuse_unused_rows
 from .entries import entries
 from .explain import written_lines
 from .layout import RULES, erased_texts
-from .places import place_of, refuse_missing_places, with_checks, with_places, without_items
+from .places import Place, place_of, refuse_missing_places, with_checks, with_places, without_items
 from .scanner import Refused
 
 FILE = "program_io/src/sample.rt"
@@ -29,6 +29,10 @@ WRONG_TABLES = {
     "an item that is not there": lambda: without_items({FILE: "fn f() {}"}, PLACES),
     "a check of a function that is not there": lambda: with_checks({FILE: "fn f() {}"}, PLACES),
     "a place of a file that is not there": lambda: refuse_missing_places({}, PLACES),
+    "a row of a function that is not there": lambda: refuse_missing_places({FILE: "fn f() {}"}, PLACES),
+    "a row of an unknown kind": lambda: refuse_missing_places(
+        {FILE: "fn f() {}"}, [Place(FILE, "panic", "f", "", "", "")]
+    ),
     "a row for a type that is not there": lambda: refuse_unused_rows({FILE: "pub struct A;"}, ("A", "B")),
 }
 EXPLAINED = "use crate::a::B;\n/// F.\npub fn f(alloc: Global, b: B) -> u8\n    ensures { a }\n{\n    1\n}\n"

@@ -31,7 +31,7 @@ all!(RunFailureStep: SetupScript Test);
 all!(AbortDescription: WindowsJobObject);
 
 /// The page that lists the variants that upstream does not have.
-const PROMISES: &str = include_str!("SEMVER.md");
+const SEMVER: &str = include_str!("SEMVER.md");
 
 impl All for CancelReason {
     /// Returns upstream's reasons. An error of `serde` lists the words of all reasons.
@@ -43,7 +43,7 @@ impl All for CancelReason {
         let reasons = words.map(|word| serde_json::from_str(&format!("{word:?}")));
         reasons
             .map(|reason: Result<Self, _>| reason.expect("a word names a reason"))
-            .filter(|reason| !PROMISES.contains(&format!("`CancelReason::{reason:?}`")))
+            .filter(|reason| !SEMVER.contains(&format!("`CancelReason::{reason:?}`")))
             .collect()
     }
 }
