@@ -13,13 +13,13 @@ mod extract;
 mod heads;
 mod hexadecimal;
 mod level;
+mod lines;
 mod rows;
 mod unit;
 mod visibility;
 mod words;
 
-use flate2::read::GzDecoder;
-use std::io::Read;
+use lines::{agrees, unpacked};
 
 /// What lines begin with.
 const KINDS: [&str; 8] = [
@@ -49,15 +49,6 @@ fn agrees_as_it_is(line: &str) -> Option<bool> {
     }
 }
 
-/// Returns true if a line is as it should be, or `None` if it should have a case and has none.
-fn agrees(line: &str) -> Option<bool> {
-    match line.split_once(' ') {
-        Some(("changed", changed)) => Some(agrees_as_it_is(changed) == Some(false)),
-        Some(("malformed", malformed)) => Some(agrees_as_it_is(malformed).is_none()),
-        _ => agrees_as_it_is(line),
-    }
-}
-
 /// Returns true if the case of a line can be compared with the features that are on.
 fn is_compared(line: &str) -> bool {
     cfg!(feature = "serde_json") || !line.starts_with("row SerializableError | ")
@@ -65,16 +56,14 @@ fn is_compared(line: &str) -> bool {
 
 #[test]
 fn all_lines_agree() {
-    let mut lines = String::new();
-    let read = GzDecoder::new(PACKED).read_to_string(&mut lines);
-    assert!(read.is_ok(), "the file is whole");
+    let lines = unpacked(PACKED);
     for kind in KINDS {
         let begins = |line: &str| line.split(' ').next() == Some(kind);
         assert!(lines.lines().any(begins), "no line begins with {kind}");
     }
     let wrong: Vec<&str> = lines
         .lines()
-        .filter(|line| is_compared(line) && agrees(line) != Some(true))
+        .filter(|line| is_compared(line) && agrees(line, agrees_as_it_is) != Some(true))
         .collect();
     assert!(wrong.is_empty(), "{}", wrong.join("\n"));
 }

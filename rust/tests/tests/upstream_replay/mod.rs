@@ -8,11 +8,12 @@
 //! `docs/PLAIN-RUST.md` has the number of lines, which `tools/documents` compares.
 
 mod engine;
+#[path = "../../../deodarsieve/tests/upstream_replay/lines.rs"]
+mod lines;
 
 use deodarsieve_cli::run_digest_engine::command::Command;
-use flate2::read::GzDecoder;
+use lines::{agrees, unpacked};
 use std::collections::HashSet;
-use std::io::Read;
 
 const LINES: &str = include_str!("../../data/upstream_replay.txt");
 
@@ -29,25 +30,16 @@ fn agrees_as_it_is(line: &str) -> Option<bool> {
     }
 }
 
-/// Returns true if a line is as it should be, or `None` if it should have a case and has none.
-fn agrees(line: &str) -> Option<bool> {
-    match line.split_once(' ') {
-        Some(("changed", changed)) => Some(agrees_as_it_is(changed) == Some(false)),
-        Some(("malformed", malformed)) => Some(agrees_as_it_is(malformed).is_none()),
-        _ => agrees_as_it_is(line),
-    }
-}
-
 #[test]
 fn all_lines_that_are_not_packed_agree() {
-    let mut packed = String::new();
-    let read = GzDecoder::new(PACKED).read_to_string(&mut packed);
-    assert!(read.is_ok(), "the file is whole");
+    let packed = unpacked(PACKED);
     let packed: HashSet<&str> = packed.lines().collect();
     let lines = (1..)
         .zip(LINES.lines())
         .filter(|(_, line)| !line.starts_with('#') && !packed.contains(line));
-    let results: Vec<_> = lines.map(|(number, line)| (number, agrees(line))).collect();
+    let results: Vec<_> = lines
+        .map(|(number, line)| (number, agrees(line, agrees_as_it_is)))
+        .collect();
     let wrong: Vec<_> = results
         .iter()
         .filter(|(_, result)| *result != Some(true))
