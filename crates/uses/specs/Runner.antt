@@ -35,16 +35,7 @@ numbered_of total number = record { attempt = number; total_attempts = total }
 abbrev pub left_by : EndedAttempt → ChildExecutionOutputDescription LiveSpec ChildOutputDescription
 left_by attempt = left.Output (Some (described_result attempt.outcome None)) (Split None (Some attempt.stderr.now)) None
 
--- the status of an attempt with this number is added at the end of a list
-pub record AddsStatus (attempt : EndedAttempt) (number : RetryData) (old new : List (ExecuteStatus LiveSpec ChildOutputDescription)) : Type 0 where
-  pub status : ExecuteStatus LiveSpec ChildOutputDescription
-  pub items : new ≡ old ++ status ∷ []
-  pub retry_data : status.retry_data ≡ number
-  pub output : status.output ≡ left_by attempt
-  pub result : status.result ≡ described_result attempt.outcome None
-  pub is_slow : status.is_slow ≡ attempt.is_slow
-
--- the start of a run of one setup script and one test, of which none was skipped, and which was not cancelled
+-- the start of a run of one setup script and one test. No test was skipped, and the run was not cancelled
 abbrev pub start_of_both : RunStart
 start_of_both = record { initial_run_count = 1; setup_scripts_initial_count = 1; skipped = 0; cancel_reason = None }
 
@@ -58,6 +49,16 @@ stderr_in NotLoaded = None
 abbrev pub stderr_of : ChildExecutionOutputDescription LiveSpec ChildOutputDescription → Option (List ℕ)
 stderr_of (left.Output end output errors) = stderr_in output
 stderr_of (left.StartError e) = None
+
+-- the status of an attempt with this number is added at the end of a list
+pub record AddsStatus (attempt : EndedAttempt) (number : RetryData) (old new : List (ExecuteStatus LiveSpec ChildOutputDescription)) : Type 0 where
+  pub status : ExecuteStatus LiveSpec ChildOutputDescription
+  pub items : new ≡ old ++ status ∷ []
+  pub retry_data : status.retry_data ≡ number
+  pub output : status.output ≡ left_by attempt
+  pub stderr : stderr_of status.output ≡ Some attempt.stderr.now
+  pub result : status.result ≡ described_result attempt.outcome None
+  pub is_slow : status.is_slow ≡ attempt.is_slow
 
 -- the captured standard error of the last attempt
 abbrev pub last_stderr : ExecutionStatuses LiveSpec ChildOutputDescription → Option (List ℕ)

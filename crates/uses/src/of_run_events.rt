@@ -60,7 +60,7 @@ pub fn push_status(
     Ok(())
 }
 
-/// Describes the output of an attempt, of which only standard error was captured.
+/// Describes the output of an attempt. Only its standard error was captured.
 fn output_of(
     alloc: Global,
     attempt: EndedAttempt<'_>,

@@ -19,8 +19,8 @@
 //!
 //! # Example
 //!
-//! This counts a run of two tests, one of which failed, and prints why. A runner that keeps the
-//! output and the times of its tests for reporters begins with [`ExecuteStatus::from_captured`].
+//! This counts a run of two tests. One of them failed, and the example prints why. A runner that
+//! keeps the output and the times of its tests begins with [`ExecuteStatus::from_captured`].
 //!
 //! ```
 //! use deodarsieve::{

@@ -7,6 +7,7 @@ returns c = record {
   items = c.in_ok-push.ensures.items;
   retry_data = search rules;
   output = search rules;
+  stderr = search rules;
   result = search rules;
   is_slow = search rules;
 }
