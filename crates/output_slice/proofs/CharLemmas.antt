@@ -40,6 +40,11 @@ char-utf8 b at to low high h = by_chars h.0 h.1.0 h.1.1 where
 pub char-same : (b : List ℕ) (at to to' c c' : ℕ) → IsCharAt b at to c → IsCharAt b at to' c' → c ≡ c'
 char-same b at to to' c c' h k = (encode_same c c' _ _ (sym (occurs-drop b _ at h.stands) ∙ occurs-drop b _ at k.stands)).0
 
+-- a byte of ASCII is a character
+pub ascii-char : (b : List ℕ) (at stop c : ℕ) → c ≡ get_or b at 0 → c < 128 → at < stop → stop ≤ length b
+    → IsCharAt b at stop c × (1 ≡ length (encode_utf8 c)) × (0 < 1)
+ascii-char b at stop c is small low high = grind (arith, encode_ascii)
+
 -- one byte is not a character outside ASCII
 pub one-byte : (b : List ℕ) (at c : ℕ) → 128 ≤ get_or b at 0 → ¬ IsCharAt b at (at + 1) c
 one-byte b at c past h = grind (arith, encode_ascii, length-encode)

@@ -1,5 +1,5 @@
 -- Tails and heads, and the results of the steps of the counted search.
-use Rattle.output_slice.proofs.Words.{◌≡◌, ℕ, ◌+◌, ◌-◌, ◌<◌, ◌≤◌, ◌⊎◌, Bool, true, List, [], ◌∷◌, ◌++◌, length, get_or, refl, sym, ap, ◌∙◌, arith, inl, inr, length-append, append-nil, encode_utf8_all, codes, not, ◌==◌, ◌&&◌, All, Option, Some, None, IfSome, encode_utf8, list_all, IsScalar, inside_one, length-le-encodes, length-encode, len_utf8_bounds, All-head, All-tail, list_all-append, AllPass-from_list_all, list_all-from_AllPass, and_from, nat_tests, get_or_default, get_or_past, OccursAt, part, IsDigit, IsTail, IsName, IsHead, AreDigits, ArePlain, IsDigitRun, NoDigitAt, IsTailEnd, IsTextEnd, AgreesFor, ReadsUpTo, TextReads, IsNamedHeadEnd, IsOpened, IsOpenedHeadEnd, IsNextQuote, NoQuoteBetween}
+use Rattle.output_slice.proofs.Words.{◌≡◌, ◌≢◌, ℕ, ◌+◌, ◌-◌, ◌<◌, ◌≤◌, ◌⊎◌, Bool, true, List, [], ◌∷◌, ◌++◌, length, get_or, refl, sym, ap, ◌∙◌, arith, inl, inr, length-append, append-nil, encode_utf8_all, codes, not, ◌==◌, ◌&&◌, All, Option, Some, None, IfSome, encode_utf8, list_all, IsScalar, inside_one, length-le-encodes, length-encode, len_utf8_bounds, All-head, All-tail, list_all-append, AllPass-from_list_all, list_all-from_AllPass, and_from, nat_tests, get_or_default, get_or_past, OccursAt, part, IsDigit, IsTail, IsName, IsHead, AreDigits, ArePlain, IsDigitRun, NoDigitAt, IsTailEnd, IsTextEnd, AgreesFor, ReadsUpTo, TextReads, IsUtf8, FewReads, HeadReadsTo, IsNamedHeadEnd, IsOpened, IsOpenedHeadEnd, IsNextQuote, NoQuoteBetween}
 use Rattle.output_slice.proofs.CharLemmas.{IsDigitRun-same}
 use Rattle.output_slice.proofs.OccursLemmas.{get_or-part, length-part, occurs-front, occurs-back, occurs-both, occurs-part, part-occurs, agrees, agrees-passes, text-passes}
 
@@ -87,12 +87,43 @@ tail-same b at e e' high high' h k = elim (tail_cases b at e high h) [
   ]
 ]
 
--- there is no tail if there is no digit between the parentheses
-pub IsTailEnd-none : (b : List ℕ) (at close : ℕ) → OccursAt b (codes " (") at → IsDigitRun b (at + 2) close → close ≡ at + 2 → IsTailEnd b at None
-IsTailEnd-none b at close opens run is e high tail = elim (tail_cases b at e high tail) [
-  | inl p ↦ apart b at p.0 opens
-  | inr q ↦ omega (arith, q.some, IsDigitRun-same b (at + 2) close q.close run q.run)
-]
+-- without a space there is no tail
+pub no-space : (b : List ℕ) (at old new : ℕ) → ¬ OccursAt b (codes " ") at → TextReads b (codes " ") at old new None
+    → IsTailEnd b at None × ReadsUpTo b at old new None
+no-space b at old new none r = (
+  λ e high tail. elim (tail_cases b at e high tail) [
+    | inl p ↦ none (occurs-front b (codes " ") (codes "panicked at ") at p.0)
+    | inr q ↦ none (occurs-front b (codes " ") (codes "(") at q.opens)
+  ],
+  record {
+    last = at;
+    low = omega arith;
+    high = omega (arith, r.2.fits);
+    plain = λ k low up. absurd (omega arith);
+    far = omega (arith, r.2);
+    near = omega (arith, r.2);
+    before = tt;
+  },
+)
+
+-- nor without a digit between the parentheses
+pub no-number : (b : List ℕ) (at close old mid new : ℕ) → OccursAt b (codes " (") at → IsDigitRun b (at + 2) close → close ≡ at + 2
+    → mid ≤ old + 2 → new + (at + 2) ≤ mid + close + 4 → IsTailEnd b at None × ReadsUpTo b at old new None
+no-number b at close old mid new opens run is few few' = (
+  λ e high tail. elim (tail_cases b at e high tail) [
+    | inl p ↦ apart b at p.0 opens
+    | inr q ↦ omega (arith, q.some, IsDigitRun-same b (at + 2) close q.close run q.run)
+  ],
+  record {
+    last = at + 2;
+    low = omega arith;
+    high = opens.fits;
+    plain = agrees-plain b (codes " (") at 2 (agrees b (codes " (") at opens) refl;
+    far = omega arith;
+    near = omega arith;
+    before = tt;
+  },
+)
 
 -- how far a text is read, whether it is found or not
 text-read : (b text : List ℕ) (at old new : ℕ) (found : Option ℕ) → TextReads b text at old new found → IsTextEnd b text at found
@@ -210,3 +241,54 @@ module _ (b : List ℕ) (place quote close : ℕ) (opened : IsOpened b place quo
       let at : s + 8 ≡ quote + 1 = omega arith in
       h e head.ends (rw same at rw at at head.name) (rw same at head.tail)
   IsOpenedHeadEnd-opened (Some e) h = grind arith
+
+-- a part without a quote is a name if it is not empty and is UTF-8
+name-from : (b : List ℕ) (i j : ℕ) → i < j → j ≤ length b → IsUtf8 (part i j b) → NoQuoteBetween b i j → IsName (part i j b)
+name-from b i j some high utf8 quiet = record {
+  some = omega (arith, length-part b i j high);
+  utf8 = utf8;
+  no_quote = λ k d low. rw (get_or_default (part i j b) k d 0 low) (grind (arith, get_or-part, length-part, quiet (i + k)));
+}
+
+module _ (b : List ℕ) (quote close old : ℕ) (after : quote < close) (high : close < length b) where
+  -- between two quotes that are next to each other there is no name
+  pub named-empty : quote + 1 ≡ close → IsNamedHeadEnd b quote close None × HeadReadsTo b quote old old close None
+  named-empty is = (
+    λ e within name tail. omega (arith, name.some, length-part b (quote + 1) close),
+    record {
+      last = close + 1;
+      low = omega arith;
+      high = omega arith;
+      plain = λ k low up. absurd (omega arith);
+      few = inl (omega arith, omega arith);
+      before = tt;
+    },
+  )
+
+  -- nor is there a head without a tail
+  pub named-none : (new : ℕ) → IsTailEnd b (close + 1) None → ReadsUpTo b (close + 1) old new None
+      → IsNamedHeadEnd b quote close None × HeadReadsTo b quote old new close None
+  named-none new none r = (
+    λ e within name tail. none e within tail,
+    record { last = r.last; low = omega (arith, r.low); high = r.high; plain = r.plain; few = inl (r.far, r.near); before = tt },
+  )
+
+  module _ (mid new e : ℕ) (tail : IsTailEnd b (close + 1) (Some e)) (r : ReadsUpTo b (close + 1) old mid (Some e))
+      (read : new ≤ mid + (close - (quote + 1))) where
+    tail-few : FewReads (close - (quote + 1)) (close + 1) r.last old new
+    tail-few = inr (r.before.1, omega (arith, r.before.2))
+
+    -- nor one whose name is malformed
+    pub named-malformed : ¬ IsUtf8 (part (quote + 1) close b) → IsNamedHeadEnd b quote close None × HeadReadsTo b quote old new close None
+    named-malformed bad = (
+      λ e' within name tail'. bad name.utf8,
+      record { last = r.last; low = omega (arith, r.low); high = r.high; plain = r.plain; few = tail-few; before = tt },
+    )
+
+    -- any other name before a tail makes a head
+    pub named-some : IsUtf8 (part (quote + 1) close b) → NoQuoteBetween b (quote + 1) close → quote + 1 ≢ close
+        → IsNamedHeadEnd b quote close (Some e) × HeadReadsTo b quote old new close (Some e)
+    named-some utf8 quiet apart = (
+      (tail.0, name-from b (quote + 1) close (omega arith) (omega arith) utf8 quiet, tail.1),
+      record { last = r.last; low = omega (arith, r.low); high = r.high; plain = r.plain; few = tail-few; before = (r.before.0, omega (arith, r.before.1)) },
+    )

@@ -11,7 +11,7 @@ pub use Rattle.output_slice.specs.Search.{AllHeadsEndBy, IsLastOpening, IsOpenin
 pub use Rattle.output_slice.specs.Shown.{extract_of, slice_of}
 pub use Rattle.output_slice.specs.Signs.{AreQuiet, IsNoteQuiet, IsQuietFrom}
 pub use Rattle.output_slice.specs.Slices.{IsBlank, IsBreak, IsErrorLine, IsErrorSlice, IsErrorStart, IsNote, IsNoteLine, IsPanicSlice, IsPart, IsTrimmed, IsTrimmedSlice, IsWidened, Slice}
-pub use Rattle.output_slice.specs.Steps.{AgreesFor, AreBreaks, AreDigits, ArePlain, AreSpaces, FewReads, HeadReads, IsCharAt, IsDigitRun, IsLineEnd, IsNamedHeadEnd, IsNextQuote, IsOpened, IsOpenedHeadEnd, IsSpace, IsTailEnd, IsTextEnd, NoDigitAt, NoFeedBetween, NoQuoteBetween, QuoteReads, ReadsAll, ReadsUpTo, TextReads}
+pub use Rattle.output_slice.specs.Steps.{AgreesFor, AreBreaks, AreDigits, ArePlain, AreSpaces, FewReads, HeadReads, HeadReadsTo, IsCharAt, IsDigitRun, IsLineEnd, IsNamedHeadEnd, IsNextQuote, IsOpened, IsOpenedHeadEnd, IsSpace, IsTailEnd, IsTextEnd, NoDigitAt, NoFeedBetween, NoQuoteBetween, QuoteReads, ReadsAll, ReadsUpTo, TextReads}
 pub use Rattle.output_slice.specs.Taken.{IsLastTaken, IsTaken, last_of}
 pub use Rattle.output_slice.specs.declared.panic_head.HeadSpan.{HeadSpan}
 pub use Rattle.std.proofs.Math.ListN.{get_or-append}

@@ -71,7 +71,6 @@ fn crossing(bytes: &[u8], at: usize) -> Option<usize>
 }
 
 /// Returns true if `at` is a line start and `thread '` begins there.
-#[tactic(auto, using(crate::proofs::OccursLemmas::reads))]
 fn is_opening(bytes: &[u8], at: usize) -> bool
     requires { at ≤ length bytes.now }
     ensures { IsTrue result ↔ IsOpening bytes.now at }

@@ -1,5 +1,5 @@
 use Rattle.output_slice.proofs.Words.{set, sym, ◌∙◌, arith, len_utf8_bounds, length-encode}
-use Rattle.output_slice.proofs.CharLemmas.{one-byte, buffer-more, char-some, char-none}
+use Rattle.output_slice.proofs.CharLemmas.{ascii-char, one-byte, buffer-more, char-some, char-none}
 use Rattle.output_slice.proofs.panic_head.characters.char_at.Goals as goal
 
 pub loop-i-init : goal.loop-i-init
@@ -29,3 +29,7 @@ loop-i-preserved g c =
 
 pub returns-clause-value : goal.returns-clause-value
 returns-clause-value g c = grind (arith, len_utf8_bounds, length-encode)
+
+pub returns-then-first-lt128-clause-value : goal.returns-then-first-lt128-clause-value
+returns-then-first-lt128-clause-value g c =
+    ascii-char _ c.args.at c.args.stop c.byte-first.result c.byte-first.ensures.value c.if-first-lt128.true c.requires.low c.requires.high
