@@ -1,6 +1,6 @@
 //! How and why a runner ends a unit.
 
-ghost use Rattle.std.specs.Prelude.{Some};
+ghost use Rattle.std.specs.Prelude.{◌≡◌, Some};
 ghost use Rattle.run_events.specs.TerminateTexts.{terminate_reason_text, terminate_signal_text};
 
 use std::fmt;
@@ -65,12 +65,21 @@ impl fmt::Display for UnitTerminateSignal {
     ghost styled_output = { λ s _. Some (terminate_signal_text s) };
 
     fn fmt<W: fmt::Write>(&self, f: &mut fmt::Formatter<W>) -> fmt::Result {
+        f.write_str(self.name())
+    }
+}
+
+impl UnitTerminateSignal {
+    /// Returns the signal's name.
+    fn name(self) -> &'static str
+        ensures { result.now ≡ terminate_signal_text self }
+    {
         match self {
-            UnitTerminateSignal::Interrupt => f.write_str("SIGINT"),
-            UnitTerminateSignal::Term => f.write_str("SIGTERM"),
-            UnitTerminateSignal::Hangup => f.write_str("SIGHUP"),
-            UnitTerminateSignal::Quit => f.write_str("SIGQUIT"),
-            UnitTerminateSignal::Kill => f.write_str("SIGKILL"),
+            UnitTerminateSignal::Interrupt => "SIGINT",
+            UnitTerminateSignal::Term => "SIGTERM",
+            UnitTerminateSignal::Hangup => "SIGHUP",
+            UnitTerminateSignal::Quit => "SIGQUIT",
+            UnitTerminateSignal::Kill => "SIGKILL",
         }
     }
 }

@@ -1,7 +1,7 @@
 //! The errors of a unit, one by one.
 
-ghost use Rattle.std.specs.Prelude.{Some};
-ghost use Rattle.run_events_results.specs.Texts.{unit_abort_text};
+ghost use Rattle.std.specs.Prelude.{◌≡◌, Some};
+ghost use Rattle.run_events_results.specs.Texts.{leak_text, unit_abort_text};
 ghost use Rattle.run_events.specs.UnitErrors.{unit_error_text};
 
 use output_slice::subslice::TestOutputErrorSlice;
@@ -25,12 +25,16 @@ impl fmt::Display for UnitAbortDescription<'_> {
 
     fn fmt<W: fmt::Write>(&self, f: &mut fmt::Formatter<W>) -> fmt::Result {
         let description = self.description;
-        write!(f, "process {description}")?;
-        if self.leaked {
-            write!(f, " (leaked handles)")?;
-        }
-        Ok(())
+        let leak = leak_note(self.leaked);
+        write!(f, "process {description}{leak}")
     }
+}
+
+/// Returns the note that a handle was left open, or no text.
+fn leak_note(leaked: bool) -> &'static str
+    ensures { result.now ≡ leak_text leaked }
+{
+    if leaked { " (leaked handles)" } else { "" }
 }
 
 /// An error of a unit. It is displayed like the error that it contains.
@@ -54,9 +58,9 @@ impl fmt::Display for UnitError<'_> {
 
     fn fmt<W: fmt::Write>(&self, f: &mut fmt::Formatter<W>) -> fmt::Result {
         match self {
-            UnitError::Start(error) => write!(f, "{error}"),
-            UnitError::Output(error) => write!(f, "{error}"),
-            UnitError::Abort(error) => write!(f, "{error}"),
+            UnitError::Start(error) => fmt::Display::fmt(error, f),
+            UnitError::Output(error) => fmt::Display::fmt(error, f),
+            UnitError::Abort(error) => fmt::Display::fmt(error, f),
             UnitError::Slice(slice) => write!(f, "{slice}"),
         }
     }

@@ -2,7 +2,7 @@
 
 ghost use Rattle.std.specs.Prelude.{◌≡◌, ◌≤◌, codes, is_some, not, map, option_map, position, Err, IfOk, Ok, if◌then◌else◌};
 ghost use Rattle.std.specs.Result.{result_map_both};
-ghost use Rattle.serde_json.specs.Data.{depth};
+ghost use Rattle.serde_json.specs.Data.{depth, string};
 ghost use Rattle.serde_json.specs.Find.{as_object, as_str, get};
 ghost use Rattle.serde_json.specs.View.{view};
 ghost use Rattle.run_events_attempts.specs.ErrorChain.{ErrorChain};
@@ -47,16 +47,17 @@ impl fmt::Display for FromValueError {
     ghost output = { λ e. Some (reading_error_text e) };
 
     fn fmt<W: fmt::Write>(&self, f: &mut fmt::Formatter<W>) -> fmt::Result {
-        match self {
-            FromValueError::NotAnObject => f.write_str("the error is not an object"),
-            FromValueError::MessageMissing => f.write_str("the error has no member `message`"),
-            FromValueError::MessageNotText => f.write_str("the member `message` is not a string"),
-            FromValueError::CausesNotAList => f.write_str("the member `causes` is not a list"),
+        let text = match self {
+            FromValueError::NotAnObject => "the error is not an object",
+            FromValueError::MessageMissing => "the error has no member `message`",
+            FromValueError::MessageNotText => "the member `message` is not a string",
+            FromValueError::CausesNotAList => "the member `causes` is not a list",
             FromValueError::CauseNotText { index } => {
-                write!(f, "the item {index} of `causes` is not a string")
+                return write!(f, "the item {index} of `causes` is not a string");
             }
-            FromValueError::OutOfMemory => f.write_str("out of memory"),
-        }
+            FromValueError::OutOfMemory => "out of memory",
+        };
+        f.write_str(text)
     }
 }
 
@@ -103,20 +104,28 @@ impl SerializableError {
 }
 
 /// Returns an error as an object with a message and a list of causes.
-#[tactic(auto, using(crate::proofs::ChainLemmas::messages_of_cause_chains))]
 fn object_of(alloc: Global, error: &SerializableError) -> Result<Value, AllocError>
     // The clauses of `to_value` are proved from this one.
     ensures { IfOk result (λ v. view v ≡ chain_object error.now) }
 {
-    let mut causes = Vec::new(alloc);
-    for cause in error.sources() {
-        causes.push(Value::try_from_str(alloc, cause.message())?)?;
-    }
-    let message = Value::try_from_str(alloc, error.message())?;
     let mut members = Map::new(alloc);
+    let message = Value::try_from_str(alloc, error.message())?;
     put(&mut members, alloc, "message", message)?;
-    put(&mut members, alloc, "causes", Value::Array(causes))?;
+    let causes = Value::Array(causes_as_values(alloc, error)?);
+    put(&mut members, alloc, "causes", causes)?;
     Ok(Value::Object(members))
+}
+
+/// Returns the messages of the causes of an error as values, the nearest cause first.
+#[tactic(auto, using(crate::proofs::ChainLemmas::messages_of_cause_chains))]
+fn causes_as_values(alloc: Global, error: &SerializableError) -> Result<Vec<Value>, AllocError>
+    ensures { IfOk result (λ vs. map view vs.items ≡ map string error.now.causes) }
+{
+    let mut values = Vec::new(alloc);
+    for cause in error.sources() {
+        values.push(Value::try_from_str(alloc, cause.message())?)?;
+    }
+    Ok(values)
 }
 
 /// Returns the message of a value.

@@ -155,6 +155,19 @@ impl ChildErrorDescription {
             | ChildErrorDescription::SetupScriptOutput { source } => source,
         }
     }
+
+    /// Returns the displayed text.
+    fn text(&self) -> &'static str
+        ensures { result.now ≡ child_error_text self.now }
+    {
+        match self {
+            ChildErrorDescription::ReadStdout { .. } => "error reading standard output",
+            ChildErrorDescription::ReadStderr { .. } => "error reading standard error",
+            ChildErrorDescription::ReadCombined { .. } => "error reading combined stream",
+            ChildErrorDescription::Wait { .. } => "error waiting for child process to exit",
+            ChildErrorDescription::SetupScriptOutput { .. } => "error reading setup script output",
+        }
+    }
 }
 
 impl fmt::Display for ChildErrorDescription {
@@ -163,21 +176,7 @@ impl fmt::Display for ChildErrorDescription {
     ghost styled_output = { λ e _. Some (child_error_text e) };
 
     fn fmt<W: fmt::Write>(&self, f: &mut fmt::Formatter<W>) -> fmt::Result {
-        match self {
-            ChildErrorDescription::ReadStdout { .. } => f.write_str(
-                "error reading standard output",
-            ),
-            ChildErrorDescription::ReadStderr { .. } => f.write_str("error reading standard error"),
-            ChildErrorDescription::ReadCombined { .. } => {
-                f.write_str("error reading combined stream")
-            }
-            ChildErrorDescription::Wait { .. } => {
-                f.write_str("error waiting for child process to exit")
-            }
-            ChildErrorDescription::SetupScriptOutput { .. } => {
-                f.write_str("error reading setup script output")
-            }
-        }
+        f.write_str(self.text())
     }
 }
 

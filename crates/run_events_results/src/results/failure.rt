@@ -3,7 +3,7 @@
 ghost use Rattle.std.specs.Prelude.{◌≡◌, Some};
 ghost use Rattle.run_events_results.specs.Described.{described_abort, described_failure};
 ghost use Rattle.run_events_results.specs.Results as spec;
-ghost use Rattle.run_events_results.specs.Texts.{abort_text, code_digits, failure_text};
+ghost use Rattle.run_events_results.specs.Texts.{abort_text, code_digits, failure_text, within};
 
 use std::fmt;
 
@@ -79,7 +79,7 @@ impl fmt::Display for FailureDescription {
     fn fmt<W: fmt::Write>(&self, f: &mut fmt::Formatter<W>) -> fmt::Result {
         match self {
             FailureDescription::ExitCode { code } => write!(f, "exited with code {code}"),
-            FailureDescription::Abort { abort } => write!(f, "{abort}"),
+            FailureDescription::Abort { abort } => fmt::Display::fmt(abort, f),
         }
     }
 }
@@ -141,21 +141,42 @@ impl fmt::Display for AbortDescription {
     fn fmt<W: fmt::Write>(&self, f: &mut fmt::Formatter<W>) -> fmt::Result {
         match self {
             AbortDescription::UnixSignal { signal, name } => {
-                write!(f, "aborted with signal {signal}")?;
-                match name {
-                    None => Ok(()),
-                    Some(name) => write!(f, " (SIG{name})"),
-                }
+                let name = Within {
+                    before: " (SIG",
+                    text: name,
+                    after: ")",
+                };
+                write!(f, "aborted with signal {signal}{name}")
             }
             AbortDescription::WindowsNtStatus { code, message } => {
                 let digits = CodeDigits { code: *code };
-                write!(f, "aborted with code 0x{digits}")?;
-                match message {
-                    None => Ok(()),
-                    Some(message) => write!(f, ": {message}"),
-                }
+                let message = Within {
+                    before: ": ",
+                    text: message,
+                    after: "",
+                };
+                write!(f, "aborted with code 0x{digits}{message}")
             }
-            AbortDescription::WindowsJobObject => write!(f, "terminated via job object"),
+            AbortDescription::WindowsJobObject => f.write_str("terminated via job object"),
+        }
+    }
+}
+
+/// A text between two others, or nothing if there is no text.
+#[derive(Clone, Copy)]
+struct Within<'a> {
+    before: &'static str,
+    text: &'a Option<String>,
+    after: &'static str,
+}
+
+impl fmt::Display for Within<'_> {
+    ghost output = { λ w. Some (within w.before.now w.text.now w.after.now) };
+
+    fn fmt<W: fmt::Write>(&self, f: &mut fmt::Formatter<W>) -> fmt::Result {
+        match self.text {
+            None => Ok(()),
+            Some(text) => write!(f, "{}{text}{}", self.before, self.after),
         }
     }
 }

@@ -63,12 +63,19 @@ pub enum UnitTerminateSignal {
 /// Writes the signal's name, for example `SIGTERM`.
 impl fmt::Display for UnitTerminateSignal {
     fn fmt(&self, f: &mut fmt::Formatter<'_>) -> fmt::Result {
+        f.write_str(self.name())
+    }
+}
+
+impl UnitTerminateSignal {
+    /// Returns the signal's name.
+    fn name(self) -> &'static str {
         match self {
-            UnitTerminateSignal::Interrupt => f.write_str("SIGINT"),
-            UnitTerminateSignal::Term => f.write_str("SIGTERM"),
-            UnitTerminateSignal::Hangup => f.write_str("SIGHUP"),
-            UnitTerminateSignal::Quit => f.write_str("SIGQUIT"),
-            UnitTerminateSignal::Kill => f.write_str("SIGKILL"),
+            UnitTerminateSignal::Interrupt => "SIGINT",
+            UnitTerminateSignal::Term => "SIGTERM",
+            UnitTerminateSignal::Hangup => "SIGHUP",
+            UnitTerminateSignal::Quit => "SIGQUIT",
+            UnitTerminateSignal::Kill => "SIGKILL",
         }
     }
 }

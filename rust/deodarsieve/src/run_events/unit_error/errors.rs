@@ -20,12 +20,14 @@ pub struct UnitAbortDescription<'a> {
 impl fmt::Display for UnitAbortDescription<'_> {
     fn fmt(&self, f: &mut fmt::Formatter<'_>) -> fmt::Result {
         let description = self.description;
-        write!(f, "process {description}")?;
-        if self.leaked {
-            write!(f, " (leaked handles)")?;
-        }
-        Ok(())
+        let leak = leak_note(self.leaked);
+        write!(f, "process {description}{leak}")
     }
+}
+
+/// Returns the note that a handle was left open, or no text.
+fn leak_note(leaked: bool) -> &'static str {
+    if leaked { " (leaked handles)" } else { "" }
 }
 
 /// An error of a unit. It is displayed like the error that it contains.
@@ -48,9 +50,9 @@ pub enum UnitError<'a> {
 impl fmt::Display for UnitError<'_> {
     fn fmt(&self, f: &mut fmt::Formatter<'_>) -> fmt::Result {
         match self {
-            UnitError::Start(error) => write!(f, "{error}"),
-            UnitError::Output(error) => write!(f, "{error}"),
-            UnitError::Abort(error) => write!(f, "{error}"),
+            UnitError::Start(error) => fmt::Display::fmt(error, f),
+            UnitError::Output(error) => fmt::Display::fmt(error, f),
+            UnitError::Abort(error) => fmt::Display::fmt(error, f),
             UnitError::Slice(slice) => write!(f, "{slice}"),
         }
     }

@@ -32,15 +32,16 @@ pub enum FromValueError {
 
 impl fmt::Display for FromValueError {
     fn fmt(&self, f: &mut fmt::Formatter<'_>) -> fmt::Result {
-        match self {
-            FromValueError::NotAnObject => f.write_str("the error is not an object"),
-            FromValueError::MessageMissing => f.write_str("the error has no member `message`"),
-            FromValueError::MessageNotText => f.write_str("the member `message` is not a string"),
-            FromValueError::CausesNotAList => f.write_str("the member `causes` is not a list"),
+        let text = match self {
+            FromValueError::NotAnObject => "the error is not an object",
+            FromValueError::MessageMissing => "the error has no member `message`",
+            FromValueError::MessageNotText => "the member `message` is not a string",
+            FromValueError::CausesNotAList => "the member `causes` is not a list",
             FromValueError::CauseNotText { index } => {
-                write!(f, "the item {index} of `causes` is not a string")
+                return write!(f, "the item {index} of `causes` is not a string");
             }
-        }
+        };
+        f.write_str(text)
     }
 }
 
@@ -68,15 +69,21 @@ impl SerializableError {
 
 /// Returns an error as an object with a message and a list of causes.
 fn object_of(error: &SerializableError) -> Value {
-    let mut causes = Vec::new();
-    for cause in error.sources() {
-        causes.push(Value::from(cause.message()));
-    }
-    let message = Value::from(error.message());
     let mut members = Map::new();
+    let message = Value::from(error.message());
     members.insert(String::from("message"), message);
-    members.insert(String::from("causes"), Value::Array(causes));
+    let causes = Value::Array(causes_as_values(error));
+    members.insert(String::from("causes"), causes);
     Value::Object(members)
+}
+
+/// Returns the messages of the causes of an error as values, the nearest cause first.
+fn causes_as_values(error: &SerializableError) -> Vec<Value> {
+    let mut values = Vec::new();
+    for cause in error.sources() {
+        values.push(Value::from(cause.message()));
+    }
+    values
 }
 
 /// Returns the message of a value.

@@ -149,25 +149,22 @@ impl ChildErrorDescription {
             | ChildErrorDescription::SetupScriptOutput { source } => source,
         }
     }
+
+    /// Returns the displayed text.
+    fn text(&self) -> &'static str {
+        match self {
+            ChildErrorDescription::ReadStdout { .. } => "error reading standard output",
+            ChildErrorDescription::ReadStderr { .. } => "error reading standard error",
+            ChildErrorDescription::ReadCombined { .. } => "error reading combined stream",
+            ChildErrorDescription::Wait { .. } => "error waiting for child process to exit",
+            ChildErrorDescription::SetupScriptOutput { .. } => "error reading setup script output",
+        }
+    }
 }
 
 impl fmt::Display for ChildErrorDescription {
     fn fmt(&self, f: &mut fmt::Formatter<'_>) -> fmt::Result {
-        match self {
-            ChildErrorDescription::ReadStdout { .. } => {
-                f.write_str("error reading standard output")
-            }
-            ChildErrorDescription::ReadStderr { .. } => f.write_str("error reading standard error"),
-            ChildErrorDescription::ReadCombined { .. } => {
-                f.write_str("error reading combined stream")
-            }
-            ChildErrorDescription::Wait { .. } => {
-                f.write_str("error waiting for child process to exit")
-            }
-            ChildErrorDescription::SetupScriptOutput { .. } => {
-                f.write_str("error reading setup script output")
-            }
-        }
+        f.write_str(self.text())
     }
 }
 

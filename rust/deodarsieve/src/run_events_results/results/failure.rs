@@ -87,7 +87,7 @@ impl fmt::Display for FailureDescription {
     fn fmt(&self, f: &mut fmt::Formatter<'_>) -> fmt::Result {
         match self {
             FailureDescription::ExitCode { code } => write!(f, "exited with code {code}"),
-            FailureDescription::Abort { abort } => write!(f, "{abort}"),
+            FailureDescription::Abort { abort } => fmt::Display::fmt(abort, f),
         }
     }
 }
@@ -158,21 +158,40 @@ impl fmt::Display for AbortDescription {
     fn fmt(&self, f: &mut fmt::Formatter<'_>) -> fmt::Result {
         match self {
             AbortDescription::UnixSignal { signal, name } => {
-                write!(f, "aborted with signal {signal}")?;
-                match name {
-                    None => Ok(()),
-                    Some(name) => write!(f, " (SIG{name})"),
-                }
+                let name = Within {
+                    before: " (SIG",
+                    text: name,
+                    after: ")",
+                };
+                write!(f, "aborted with signal {signal}{name}")
             }
             AbortDescription::WindowsNtStatus { code, message } => {
                 let digits = CodeDigits { code: *code };
-                write!(f, "aborted with code 0x{digits}")?;
-                match message {
-                    None => Ok(()),
-                    Some(message) => write!(f, ": {message}"),
-                }
+                let message = Within {
+                    before: ": ",
+                    text: message,
+                    after: "",
+                };
+                write!(f, "aborted with code 0x{digits}{message}")
             }
-            AbortDescription::WindowsJobObject => write!(f, "terminated via job object"),
+            AbortDescription::WindowsJobObject => f.write_str("terminated via job object"),
+        }
+    }
+}
+
+/// A text between two others, or nothing if there is no text.
+#[derive(Clone, Copy)]
+struct Within<'a> {
+    before: &'static str,
+    text: &'a Option<String>,
+    after: &'static str,
+}
+
+impl fmt::Display for Within<'_> {
+    fn fmt(&self, f: &mut fmt::Formatter<'_>) -> fmt::Result {
+        match self.text {
+            None => Ok(()),
+            Some(text) => write!(f, "{}{text}{}", self.before, self.after),
         }
     }
 }
