@@ -87,12 +87,13 @@ impl fmt::Display for Fault {
     ghost output = { λ f. Some (fault_text f) };
 
     fn fmt<W: fmt::Write>(&self, f: &mut fmt::Formatter<W>) -> fmt::Result {
-        match self {
-            Fault::BadLine { number } => write!(f, "line {number}: bad line"),
-            Fault::BadWord => f.write_str("usage: run-digest extract|count"),
-            Fault::Read => f.write_str("read failed"),
-            Fault::Write => f.write_str("write failed"),
-            Fault::OutOfMemory => f.write_str("out of memory"),
-        }
+        let text = match self {
+            Fault::BadLine { number } => return write!(f, "line {number}: bad line"),
+            Fault::BadWord => "usage: run-digest extract|count",
+            Fault::Read => "read failed",
+            Fault::Write => "write failed",
+            Fault::OutOfMemory => "out of memory",
+        };
+        f.write_str(text)
     }
 }

@@ -46,11 +46,12 @@ impl From<DeviceFault> for Fault {
 
 impl fmt::Display for Fault {
     fn fmt(&self, f: &mut fmt::Formatter<'_>) -> fmt::Result {
-        match self {
-            Fault::BadLine { number } => write!(f, "line {number}: bad line"),
-            Fault::BadWord => f.write_str("usage: run-digest extract|count"),
-            Fault::Read => f.write_str("read failed"),
-            Fault::Write => f.write_str("write failed"),
-        }
+        let text = match self {
+            Fault::BadLine { number } => return write!(f, "line {number}: bad line"),
+            Fault::BadWord => "usage: run-digest extract|count",
+            Fault::Read => "read failed",
+            Fault::Write => "write failed",
+        };
+        f.write_str(text)
     }
 }
