@@ -1,5 +1,5 @@
 -- What is written of a text of any origin.
-use Rattle.std.proofs.Common.{◌≡◌, ◌∙◌, ◌<◌, ◌≤◌, ◌&&◌, ◌||◌, ◌==◌, refl, sym, subst, ap, arith, ℕ, zero, suc, Bool, true, false, true≢false, not, List, [], ◌∷◌, ◌++◌, append_assoc, drop, length, length-append, nat_lt, take, if◌then◌else◌}
+use Rattle.std.proofs.Common.{◌≡◌, ◌∙◌, ◌<◌, ◌≤◌, ◌&&◌, ◌||◌, ◌==◌, refl, sym, subst, ap, arith, ℕ, zero, suc, Bool, true, false, true≢false, not, List, [], ◌∷◌, ◌++◌, append_assoc, drop, length, length-append, nat_lt, take, if◌then◌else◌, ◌-◌}
 use Rattle.std.proofs.lemmas.Bool.{and_parts}
 use Rattle.std.proofs.lemmas.Bool.Decides.{nat_tests}
 use Rattle.std.proofs.lemmas.List.{take-append-drop}
@@ -185,6 +185,10 @@ front-run r l text n utf8 le h =
       ends_is = run.ends_is ∙ ap (ends r l 0) whole;
       has_is = run.has_is ∙ ap (has_kept r) whole;
     }
+
+-- a range from the front on
+pub range-front : (n : ℕ) (xs part : List ℕ) → part ≡ take (n - 0) xs → part ≡ take n xs
+range-front n xs part is = grind arith
 
 -- one step of the loop that writes
 pub text-char : (r : Rules) (l m : Line) (c n : ℕ) (tail t u v run rest : List ℕ) → m ≡ next r l c → kept_len r c (chars tail) ≡ 0

@@ -1,9 +1,8 @@
 use Rattle.std.proofs.Common.{◌≡◌, ◌<◌, ◌≤◌, ◌∙◌, ◌∷◌, ◌++◌, ◌||◌, ap, arith, append-nil, drop, length, sym, take}
-use Rattle.std.proofs.lemmas.Grind.{common_steps}
 use Rattle.std.specs.Str.{chars}
 use Rattle.report_text.specs.Shown.{ends, has_kept, kept_len, pushed}
 use Rattle.report_text.proofs.Characters.{first-char, no-chars}
-use Rattle.report_text.proofs.Pushing.{ends-char, ends-kept, front-run, has-char, has-one, or-none, text-char, text-kept}
+use Rattle.report_text.proofs.Pushing.{ends-char, ends-kept, front-run, has-char, has-one, or-none, range-front, text-char, text-kept}
 use Rattle.report_text.proofs.Styles.{cut-kept}
 use Rattle.report_text.proofs.shown.push_shown.Goals as goal
 
@@ -33,7 +32,7 @@ loop-c-preserved-then-kept-eq0 c =
     let stay = rw c.as_bytes.ensures.value at c.stays_len-n.ensures.stay in
     let within : c.stays_len-n.result ≤ length c.as_str-tail.result.now = omega (arith, ap length c.as_bytes.ensures.value) in
     let k = front-run r line tail n c.as_str-tail.utf8 within stay in
-    let run : c.range.result.now ≡ take c.stays_len-n.result c.as_str-tail.result.now = grind (arith, common_steps) in
+    let run : c.range.result.now ≡ take c.stays_len-n.result c.as_str-tail.result.now = range-front n tail c.range.result.now c.range.ensures.value in
     let left : c.chars-rest-then-kept-eq0.result.rest.now ≡ drop n tail = c.chars-rest-then-kept-eq0.ensures.rest ∙ c.range_from.ensures.value in
     record {
       text = λ e.
@@ -73,7 +72,8 @@ loop-c-preserved c =
     let some : 0 < c.kept_len-kept.result = omega arith in
     let same = ap chars c.in-Some.ensures.steps.0 ∙ (first-char char rest ∙ ap (λ t. char ∷ chars t) (sym c.as_str-tail.ensures)) in
     let k = cut-kept r tail char n c.as_str-tail.utf8 c.kept_len-kept.ensures some in
-    let run : c.range-else-kept-eq0.result.now ≡ take c.kept_len-kept.result c.as_str-tail.result.now = grind (arith, common_steps) in
+    let run : c.range-else-kept-eq0.result.now ≡ take c.kept_len-kept.result c.as_str-tail.result.now =
+    range-front n tail c.range-else-kept-eq0.result.now c.range-else-kept-eq0.ensures.value in
     let left : c.chars-rest-else-kept-eq0.result.rest.now ≡ drop n tail = c.chars-rest-else-kept-eq0.ensures.rest ∙ c.range_from-else-kept-eq0.ensures.value in
     record {
       text = λ e.
