@@ -1,17 +1,19 @@
 -- Rendering, part by part and value by value.
-use Rattle.std.proofs.Common.{◌≡◌, ◌∙◌, refl, sym, ap, ℕ, ◌+◌, ◌<◌, ◌≤◌, add-one, List, [], ◌∷◌, ◌++◌, append-nil, append_assoc, drop, get_or, length, string_bytes, Some, None, String, Vec, true, false, suc}
+use Rattle.std.proofs.Common.{◌≡◌, ◌∙◌, Bor, refl, sym, ap, ℕ, ◌+◌, ◌<◌, ◌≤◌, add-one, List, [], ◌∷◌, ◌++◌, append-nil, append_assoc, drop, get_or, length, string_bytes, Some, None, String, Vec, true, false, suc}
 use Rattle.std.proofs.Math.ListN.{drop_of_length-le}
 use Rattle.std.proofs.Math.Seq.{drop-cons}
 use Rattle.std.specs.List.{flat_map}
 use Rattle.std.specs.Option.{option_to_list}
 use Rattle.std.specs.declared.alloc.Global.{Global}
 use Rattle.template.specs.Hole.{hole_text}
-use Rattle.template.specs.Template.{Parts, Values, has_items, if_none, item_in, items_of, part_step, part_text, part_view, parts_text, parts_view, text_of, value_view, values_view}
+use Rattle.template.specs.Template.{Parts, Values, has_items, if_none, item_in, items_of, part_step, part_text, part_view, parts_text, parts_view, text_of, value_step, value_view, values_view}
 use Rattle.template.specs.Template as spec
 use Rattle.template.specs.declared.part.Part.{Part, fold-roll-Part}
 use Rattle.template.specs.declared.part.Part.TheOpen.{Part-F}
 use Rattle.template.specs.declared.part.Part.TheVariants as part
-use Rattle.template.specs.declared.value.Value.{Value}
+use Rattle.template.specs.declared.value.Value.{Value, fold-roll-Value}
+use Rattle.template.specs.declared.value.Value.TheOpen.{Value-F}
+use Rattle.template.specs.declared.value.Value.TheVariants as value
 
 -- the parts as they are kept
 pub text_part : (p : Part) (text : String Global) → p ≡ part.Text text → (vs : Values) → part_text (part_view p) vs ≡ string_bytes text
@@ -100,3 +102,10 @@ some_items (i ∷ items) text e = refl
 pub no_items : (items : List Values) (text : List ℕ) → has_items items ≡ false → if_none items text ≡ text
 no_items [] text e = refl
 no_items (i ∷ items) text e = cc
+
+-- the values as they are kept
+pub text_value : (name : Bor (List ℕ)) (text : String Global) → value_view (value.Text name text) ≡ spec.TextValue name.now (string_bytes text)
+text_value name text = ap value_view (sym (value.rolls-Text name text)) ∙ fold-roll-Value spec.ValueView value_step (Value-F.Text name text)
+
+pub item_value : (name : Bor (List ℕ)) (values : Vec Value Global) → value_view (value.Item name values) ≡ spec.ItemValue name.now (values_view values.items)
+item_value name values = ap value_view (sym (value.rolls-Item name values)) ∙ fold-roll-Value spec.ValueView value_step (Value-F.Item name values)

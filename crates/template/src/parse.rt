@@ -91,10 +91,24 @@ impl Parsed {
         }
     }
 
-    /// Begins a section.
-    fn with_section(self, alloc: Global, for_each: bool, name: String) -> Result<Parsed, AllocError>
-        ensures { IfOk result (λ p. parsed_view p
-            ≡ spec.with_section (parsed_view self) for_each (string_bytes name)) }
+    /// Returns the state after a part.
+    fn after_part(self, alloc: Global, part: Part) -> Result<Parsing, AllocError>
+        ensures { IfOk result (λ p. parsing_view p
+            ≡ spec.InText (spec.with_part (parsed_view self) (part_view part)) []) }
+    {
+        let parsed = self.with_part(part)?;
+        Ok(Parsing::InText(parsed, String::new(alloc)))
+    }
+
+    /// Returns the state after the beginning of a section.
+    fn begin_section(
+        self,
+        alloc: Global,
+        for_each: bool,
+        name: String,
+    ) -> Result<Parsing, AllocError>
+        ensures { IfOk result (λ p. parsing_view p
+            ≡ spec.InText (spec.with_section (parsed_view self) for_each (string_bytes name)) []) }
     {
         let Parsed {
             mut sections,
@@ -106,11 +120,12 @@ impl Parsed {
             name,
             before: parts,
         })?;
-        Ok(Parsed {
+        let parsed = Parsed {
             sections,
             parts: Vec::new(alloc),
             in_tag,
-        })
+        };
+        Ok(Parsing::InText(parsed, String::new(alloc)))
     }
 
     /// Ends a section.
@@ -128,13 +143,13 @@ impl Parsed {
                 if section.name.as_str() != name {
                     return Ok(Parsing::Bad);
                 }
-                let parts = section_parts(section, parts)?;
-                let parsed = Parsed {
+                let part = section_part(section.for_each, section.name, parts);
+                let outer = Parsed {
                     sections,
-                    parts,
+                    parts: section.before,
                     in_tag,
                 };
-                Ok(Parsing::InText(parsed, String::new(alloc)))
+                outer.after_part(alloc, part)
             }
             None => Ok(Parsing::Bad),
         }
@@ -147,22 +162,14 @@ impl Parsed {
         match kind {
             Kind::Value => {
                 let kind = kind_at(self.in_tag);
-                let parsed = self.with_part(Part::Hole { kind, name })?;
-                Ok(Parsing::InText(parsed, String::new(alloc)))
+                self.after_part(alloc, Part::Hole { kind, name })
             }
             Kind::Plain => {
                 let kind = Hole::Plain;
-                let parsed = self.with_part(Part::Hole { kind, name })?;
-                Ok(Parsing::InText(parsed, String::new(alloc)))
+                self.after_part(alloc, Part::Hole { kind, name })
             }
-            Kind::Each => {
-                let parsed = self.with_section(alloc, true, name)?;
-                Ok(Parsing::InText(parsed, String::new(alloc)))
-            }
-            Kind::Otherwise => {
-                let parsed = self.with_section(alloc, false, name)?;
-                Ok(Parsing::InText(parsed, String::new(alloc)))
-            }
+            Kind::Each => self.begin_section(alloc, true, name),
+            Kind::Otherwise => self.begin_section(alloc, false, name),
             Kind::End => self.close(alloc, name.as_str()),
         }
     }
@@ -187,6 +194,32 @@ impl Parsed {
         }
     }
 
+    /// Returns the state after a text, a brace and a character.
+    fn after_brace(self, alloc: Global, mut text: String, c: char) -> Result<Parsing, AllocError>
+        ensures { IfOk result (λ p. parsing_view p
+            ≡ spec.parse_step (spec.OneBrace (parsed_view self) (string_bytes text)) c) }
+    {
+        if c == '{' {
+            Ok(Parsing::TwoBraces(self.with_text(text)?))
+        } else {
+            text.push('{')?;
+            self.more_text(alloc, text, c)
+        }
+    }
+
+    /// Returns the state after one more character of a name.
+    fn more_name(self, kind: Kind, mut name: String, c: char) -> Result<Parsing, AllocError>
+        ensures { IfOk result (λ p. parsing_view p
+            ≡ spec.parse_step (spec.InName (parsed_view self) kind (string_bytes name)) c) }
+    {
+        if c == '}' {
+            Ok(Parsing::NameEnd(self, kind, name))
+        } else {
+            name.push(c)?;
+            Ok(Parsing::InName(self, kind, name))
+        }
+    }
+
     /// Returns the state after the first character after two braces.
     fn begin_name(self, alloc: Global, c: char) -> Result<Parsing, AllocError>
         ensures { IfOk result (λ p. parsing_view p ≡ spec.begin_name (parsed_view self) c) }
@@ -206,22 +239,16 @@ impl Parsed {
     }
 }
 
-/// Returns the parts before a section, and the section with these parts.
-fn section_parts(section: Section, parts: Vec<Part>) -> Result<Vec<Part>, AllocError>
-    ensures { IfOk result (λ all. map part_view all.items ≡ map part_view section.before.items
-        ++ (spec.section_part section.for_each (string_bytes section.name) (map part_view parts.items) ∷ [])) }
+/// Returns the part of a section with these parts.
+fn section_part(for_each: bool, name: String, parts: Vec<Part>) -> Part
+    ensures { part_view result
+        ≡ spec.section_part for_each (string_bytes name) (map part_view parts.items) }
 {
-    let Section {
-        for_each,
-        name,
-        mut before,
-    } = section;
     if for_each {
-        before.push(Part::Each { name, parts })?;
+        Part::Each { name, parts }
     } else {
-        before.push(Part::Otherwise { name, parts })?;
+        Part::Otherwise { name, parts }
     }
-    Ok(before)
 }
 
 /// Returns the kind of a hole in a tag, or between tags.
@@ -255,23 +282,9 @@ impl Parsing {
                     parsed.more_text(alloc, text, c)
                 }
             }
-            Parsing::OneBrace(parsed, mut text) => {
-                if c == '{' {
-                    Ok(Parsing::TwoBraces(parsed.with_text(text)?))
-                } else {
-                    text.push('{')?;
-                    parsed.more_text(alloc, text, c)
-                }
-            }
+            Parsing::OneBrace(parsed, text) => parsed.after_brace(alloc, text, c),
             Parsing::TwoBraces(parsed) => parsed.begin_name(alloc, c),
-            Parsing::InName(parsed, kind, mut name) => {
-                if c == '}' {
-                    Ok(Parsing::NameEnd(parsed, kind, name))
-                } else {
-                    name.push(c)?;
-                    Ok(Parsing::InName(parsed, kind, name))
-                }
-            }
+            Parsing::InName(parsed, kind, name) => parsed.more_name(kind, name, c),
             Parsing::NameEnd(parsed, kind, name) => {
                 if c == '}' {
                     parsed.on_name(alloc, kind, name)

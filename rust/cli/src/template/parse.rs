@@ -82,8 +82,14 @@ impl Parsed {
         }
     }
 
-    /// Begins a section.
-    fn with_section(self, for_each: bool, name: String) -> Parsed {
+    /// Returns the state after a part.
+    fn after_part(self, part: Part) -> Parsing {
+        let parsed = self.with_part(part);
+        Parsing::InText(parsed, String::new())
+    }
+
+    /// Returns the state after the beginning of a section.
+    fn begin_section(self, for_each: bool, name: String) -> Parsing {
         let Parsed {
             mut sections,
             parts,
@@ -94,11 +100,12 @@ impl Parsed {
             name,
             before: parts,
         });
-        Parsed {
+        let parsed = Parsed {
             sections,
             parts: Vec::new(),
             in_tag,
-        }
+        };
+        Parsing::InText(parsed, String::new())
     }
 
     /// Ends a section.
@@ -113,13 +120,13 @@ impl Parsed {
                 if section.name.as_str() != name {
                     return Parsing::Bad;
                 }
-                let parts = section_parts(section, parts);
-                let parsed = Parsed {
+                let part = section_part(section.for_each, section.name, parts);
+                let outer = Parsed {
                     sections,
-                    parts,
+                    parts: section.before,
                     in_tag,
                 };
-                Parsing::InText(parsed, String::new())
+                outer.after_part(part)
             }
             None => Parsing::Bad,
         }
@@ -130,22 +137,14 @@ impl Parsed {
         match kind {
             Kind::Value => {
                 let kind = kind_at(self.in_tag);
-                let parsed = self.with_part(Part::Hole { kind, name });
-                Parsing::InText(parsed, String::new())
+                self.after_part(Part::Hole { kind, name })
             }
             Kind::Plain => {
                 let kind = Hole::Plain;
-                let parsed = self.with_part(Part::Hole { kind, name });
-                Parsing::InText(parsed, String::new())
+                self.after_part(Part::Hole { kind, name })
             }
-            Kind::Each => {
-                let parsed = self.with_section(true, name);
-                Parsing::InText(parsed, String::new())
-            }
-            Kind::Otherwise => {
-                let parsed = self.with_section(false, name);
-                Parsing::InText(parsed, String::new())
-            }
+            Kind::Each => self.begin_section(true, name),
+            Kind::Otherwise => self.begin_section(false, name),
             Kind::End => self.close(name.as_str()),
         }
     }
@@ -166,6 +165,26 @@ impl Parsed {
         }
     }
 
+    /// Returns the state after a text, a brace and a character.
+    fn after_brace(self, mut text: String, c: char) -> Parsing {
+        if c == '{' {
+            Parsing::TwoBraces(self.with_text(text))
+        } else {
+            text.push('{');
+            self.more_text(text, c)
+        }
+    }
+
+    /// Returns the state after one more character of a name.
+    fn more_name(self, kind: Kind, mut name: String, c: char) -> Parsing {
+        if c == '}' {
+            Parsing::NameEnd(self, kind, name)
+        } else {
+            name.push(c);
+            Parsing::InName(self, kind, name)
+        }
+    }
+
     /// Returns the state after the first character after two braces.
     fn begin_name(self, c: char) -> Parsing {
         let mut name = String::new();
@@ -183,19 +202,13 @@ impl Parsed {
     }
 }
 
-/// Returns the parts before a section, and the section with these parts.
-fn section_parts(section: Section, parts: Vec<Part>) -> Vec<Part> {
-    let Section {
-        for_each,
-        name,
-        mut before,
-    } = section;
+/// Returns the part of a section with these parts.
+fn section_part(for_each: bool, name: String, parts: Vec<Part>) -> Part {
     if for_each {
-        before.push(Part::Each { name, parts });
+        Part::Each { name, parts }
     } else {
-        before.push(Part::Otherwise { name, parts });
+        Part::Otherwise { name, parts }
     }
-    before
 }
 
 /// Returns the kind of a hole in a tag, or between tags.
@@ -223,23 +236,9 @@ impl Parsing {
                     parsed.more_text(text, c)
                 }
             }
-            Parsing::OneBrace(parsed, mut text) => {
-                if c == '{' {
-                    Parsing::TwoBraces(parsed.with_text(text))
-                } else {
-                    text.push('{');
-                    parsed.more_text(text, c)
-                }
-            }
+            Parsing::OneBrace(parsed, text) => parsed.after_brace(text, c),
             Parsing::TwoBraces(parsed) => parsed.begin_name(c),
-            Parsing::InName(parsed, kind, mut name) => {
-                if c == '}' {
-                    Parsing::NameEnd(parsed, kind, name)
-                } else {
-                    name.push(c);
-                    Parsing::InName(parsed, kind, name)
-                }
-            }
+            Parsing::InName(parsed, kind, name) => parsed.more_name(kind, name, c),
             Parsing::NameEnd(parsed, kind, name) => {
                 if c == '}' {
                     parsed.on_name(kind, name)
