@@ -108,6 +108,16 @@ module _ (d : Data) (time : Option ℕ) where
   unfolding typed_said
   of-suite of w is = at-some (typed_said time d) of ∙ at-some (suite_said time d) is
 
+  pub typed-test : typed_said time d (codes "test")
+      ≡ option_and_then (λ name. option_and_then (test_said time d name) (text_of (codes "event") d)) (text_of (codes "name") d)
+  unfolding typed_said
+  typed-test = refl
+
+  pub typed-bench : typed_said time d (codes "bench")
+      ≡ option_and_then (λ name. Some (TestEnds (test_end_said time d name (bench_result d)))) (text_of (codes "name") d)
+  unfolding typed_said
+  typed-bench = refl
+
   of-test : HasType d (codes "test") → (name : List ℕ) → HasName d name → (w : List ℕ) → HasEvent d w → object_said time d ≡ test_said time d name w
   unfolding typed_said
   of-test of name named w is = at-some (typed_said time d) of

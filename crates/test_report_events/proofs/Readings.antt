@@ -1,6 +1,8 @@
 -- What is read of a line.
-use Rattle.std.proofs.Common.{◌≡◌, ◌∙◌, ◌∷◌, ◌++◌, ◌<◌, [], refl, sym, ap, arith, ℕ, List, Option, Some, None, inl, inr, subst, take_all, MatchOption, IfSome, option_map}
+use Rattle.std.proofs.Common.{◌≡◌, ◌∙◌, ◌∷◌, ◌++◌, ◌<◌, [], Bool, true, false, ltb-true, codes, nat_lt, length-append, refl, sym, ap, arith, ℕ, List, Option, Some, None, inl, inr, subst, take_all, MatchOption, IfSome, option_map}
 use Rattle.std.proofs.Math.Logic.{⊎_elim}
+use Rattle.std.proofs.lemmas.Bool.{ltb-false}
+use Rattle.std.specs.Bool.{then_some}
 use Rattle.std.specs.Prelude.{drop, length, option_to_list, take}
 use Rattle.serde_json.specs.Data.{Data}
 use Rattle.serde_json.specs.View.{view}
@@ -97,29 +99,44 @@ pub tells_kept : (line : List ℕ) (kept : Line) (program : Option ProgramLine) 
     → TellsProgram line (program_of kept)
 tells_kept line kept program tells is = subst (λ p. TellsProgram line (option_map program_view p)) (sym is) tells
 
--- the events of a line
-pub whole_line : (line : List ℕ) (events : List EventView) (e : EventView) → HoldsEvent line 0 e → events ≡ e ∷ [] → LineSays line events
-whole_line line events e holds are = record {
-  before = None;
-  event = e;
-  rest = None;
-  damage = None;
-  says = inl (refl, (0, holds));
-  is_rest = (e, holds);
-  damaged = refl;
-  are = are;
-}
+-- what is in front of an event at an offset
+abbrev pub IsFront : ℕ → Option ℕ → Type 0
+IsFront at rest = MatchOption rest (at ≡ 0) (λ size. (0 < at) × (size ≡ at))
 
-pub front_line : (line : List ℕ) (events : List EventView) (at : ℕ) (e : EventView) (damage : Option EventView) → 0 < at → HoldsEvent line at e
-    → IsDamage (take at line) damage → events ≡ e ∷ option_to_list damage → LineSays line events
-front_line line events at e damage later holds damaged are = record {
+front_by : (at : ℕ) (later : Bool) → nat_lt 0 at ≡ later → IsFront at (then_some later at)
+front_by at true is = (ltb-true 0 at is, refl)
+front_by at false is = let none = ltb-false 0 at is in omega arith
+
+pub front_of : (at : ℕ) (rest : Option ℕ) → rest ≡ then_some (nat_lt 0 at) at → IsFront at rest
+front_of at rest is = subst (IsFront at) (sym is) (front_by at _ refl)
+
+-- no text is no damage
+undamaged : (damage : Option EventView) → IsDamage [] damage → damage ≡ None
+undamaged None h = refl
+undamaged (Some e) h =
+    let m = h.0.1 in let size = ap length m.is in
+    absurd (omega (arith, size, length-append m.front (codes "\"event\"" ++ m.back)))
+
+-- the events of a line
+pub held_rest : (line : List ℕ) (at : ℕ) (e : EventView) (rest : Option ℕ) → HoldsEvent line at e → IsFront at rest → RestOf line rest
+held_rest line at e None holds front = (e, subst (λ k. HoldsEvent line k e) front holds)
+held_rest line at e (Some size) holds front = inl (omega (arith, front.1), (e, subst (λ k. HoldsEvent line k e) (sym front.1) holds))
+
+held_damage : (line : List ℕ) (at : ℕ) (rest : Option ℕ) (damage : Option EventView) → IsFront at rest → IsDamage (take at line) damage
+    → MatchOption rest (damage ≡ None) (λ size. IsDamage (take size line) damage)
+held_damage line at None damage front damaged = undamaged damage (subst (λ k. IsDamage (take k line) damage) front damaged)
+held_damage line at (Some size) damage front damaged = subst (λ k. IsDamage (take k line) damage) (sym front.1) damaged
+
+pub held_line : (line : List ℕ) (events : List EventView) (at : ℕ) (e : EventView) (damage : Option EventView) (rest : Option ℕ) → HoldsEvent line at e
+    → IsDamage (take at line) damage → IsFront at rest → events ≡ e ∷ option_to_list damage → LineSays line events
+held_line line events at e damage rest holds damaged front are = record {
   before = None;
   event = e;
-  rest = Some at;
+  rest = rest;
   damage = damage;
   says = inl (refl, (at, holds));
-  is_rest = inl (later, (e, holds));
-  damaged = damaged;
+  is_rest = held_rest line at e rest holds front;
+  damaged = held_damage line at rest damage front damaged;
   are = are;
 }
 

@@ -12,6 +12,8 @@ use Rattle.test_report_events.specs.Said.{count_of, is_text, key_of, text_of, wo
 use Rattle.test_report_events.specs.Time.{without_spaces}
 use Rattle.test_report_events.specs.declared.event.TestResult.{TestResult}
 use Rattle.test_report_events.specs.declared.event.TestResult.TheVariants.{Ok, Failed, Ignored}
+use Rattle.test_report_events.specs.declared.members.EventKind.{EventKind}
+use Rattle.test_report_events.specs.declared.members.EventKind.TheVariants as kind
 use Rattle.test_report_events.specs.declared.text.CargoEnd.{CargoEnd}
 
 -- the end of a suite with this time and verdict
@@ -75,6 +77,15 @@ typed_said time d word =
 -- what an object with this time says
 abbrev pub object_said : Option ℕ → Data → Option EventView
 object_said time d = option_and_then (typed_said time d) (text_of (codes "type") d)
+
+-- the event of an object with this time, of this kind
+abbrev pub kind_said : Option ℕ → Data → EventKind → EventView
+kind_said time d kind.SuiteStarted = SuiteStarts (key_of d) (count_of (codes "test_count") d)
+kind_said time d (kind.SuiteEnded verdict) = SuiteEnds (suite_end_said time d verdict)
+kind_said time d (kind.TestStarted name) = TestStarts name.now
+kind_said time d (kind.TestEnded name outcome) = TestEnds (test_end_said time d name.now outcome)
+kind_said time d (kind.TestSlow name) = TestIsSlow name.now
+kind_said time d kind.Other = OtherLine
 
 -- this was read of bytes: the value that they are the text of, if they are one
 abbrev pub IsValueOf : List ℕ → Option Value → Type 0

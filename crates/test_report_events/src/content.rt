@@ -2,7 +2,7 @@
 
 ghost use Rattle.std.specs.Prelude.{◌≡◌, IfOk, option_map, string_bytes};
 ghost use Rattle.test_report_events.specs.Content as kept;
-ghost use Rattle.test_report_events.specs.Event.{CargoFails, HeadingLine, Prints, SuiteEnds, SuiteStarts, TestEnds, event_view, suite_end_view, test_end_view, text_of_key};
+ghost use Rattle.test_report_events.specs.Event.{CargoFails, Prints, SuiteEnds, SuiteStarts, TestEnds, TestStarts, event_view, suite_end_view, test_end_view, text_of_key};
 
 use crate::cargo::CargoLine;
 use crate::event::{CargoFailure, Event, SuiteEnd, SuiteKey, TestDetails, TestResult};
@@ -114,40 +114,8 @@ pub(crate) struct TestEnd {
 }
 
 impl Content {
-    /// Returns an event with a copy of its texts.
-    pub(crate) fn of(alloc: Global, event: Event<'_>) -> Result<Content, AllocError>
-        ensures { IfOk result (λ content. kept.content_event content ≡ event_view event.entry) }
-    {
-        match event {
-            Event::SuiteStarted { key, test_count } => Content::suite_started(
-                alloc, key, test_count,
-            ),
-            Event::SuiteEnded(end) => Content::suite_ended(alloc, end),
-            Event::TestStarted { name } => Ok(Content::TestStarted {
-                name: String::from_str(alloc, name)?,
-            }),
-            Event::TestEnded {
-                name,
-                result: outcome,
-                details,
-            } => Content::test_ended(alloc, name, outcome, details),
-            Event::TestSlow { name } => Ok(Content::TestSlow {
-                name: String::from_str(alloc, name)?,
-            }),
-            Event::Other => Ok(Content::Other),
-            Event::Heading { suite, path } => Content::heading(alloc, suite, path),
-            Event::CargoFailed {
-                failure,
-                line,
-                plain,
-            } => Content::failure(alloc, failure, line, plain),
-            Event::Print { line, plain } => Content::print(alloc, line, plain),
-            Event::Damaged { text } => Ok(Content::Damaged(String::from_str(alloc, text)?)),
-        }
-    }
-
     /// Returns the start of a suite with a copy of its texts.
-    fn suite_started(
+    pub(crate) fn suite_started(
         alloc: Global,
         key: Option<SuiteKey<'_>>,
         test_count: Option<u64>,
@@ -161,7 +129,7 @@ impl Content {
     }
 
     /// Returns the end of a suite with a copy of its texts.
-    fn suite_ended(alloc: Global, end: SuiteEnd<'_>) -> Result<Content, AllocError>
+    pub(crate) fn suite_ended(alloc: Global, end: SuiteEnd<'_>) -> Result<Content, AllocError>
         ensures { IfOk result (λ content. kept.content_event content ≡ SuiteEnds (suite_end_view end.entry)) }
     {
         Ok(Content::SuiteEnded(LastLine {
@@ -175,8 +143,17 @@ impl Content {
         }))
     }
 
+    /// Returns the start of a test with a copy of its name.
+    pub(crate) fn test_started(alloc: Global, name: &str) -> Result<Content, AllocError>
+        ensures { IfOk result (λ content. kept.content_event content ≡ TestStarts name.now) }
+    {
+        Ok(Content::TestStarted {
+            name: String::from_str(alloc, name)?,
+        })
+    }
+
     /// Returns the end of a test with a copy of its texts.
-    fn test_ended(
+    pub(crate) fn test_ended(
         alloc: Global,
         name: &str,
         outcome: TestResult,
@@ -192,16 +169,6 @@ impl Content {
             reason: owned(alloc, details.reason)?,
             time: details.time,
         }))
-    }
-
-    /// Returns a heading of cargo with a copy of its texts.
-    fn heading(alloc: Global, suite: &str, path: Option<&str>) -> Result<Content, AllocError>
-        ensures { IfOk result (λ content. kept.content_event content ≡ HeadingLine suite.now (option_map (λ path. path.now) path.entry)) }
-    {
-        Ok(Content::Heading {
-            suite: String::from_str(alloc, suite)?,
-            path: owned(alloc, path)?,
-        })
     }
 
     /// Returns a failure that cargo or nextest reports with a copy of its texts.

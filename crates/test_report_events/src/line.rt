@@ -1,6 +1,6 @@
 //! Parses a line of a test run.
 
-ghost use Rattle.std.specs.Prelude.{◌≡◌, ◌<◌, ◌≤◌, ℕ, IfOk, MatchOption, Some, None, drop, length, option_map};
+ghost use Rattle.std.specs.Prelude.{◌≡◌, ◌≤◌, ℕ, IfOk, MatchOption, Some, None, drop, length, option_map};
 ghost use Rattle.serde_json.specs.Data.{Data};
 ghost use Rattle.serde_json.specs.Read.{read};
 ghost use Rattle.serde_json.specs.View.{view};
@@ -66,7 +66,8 @@ impl Line {
         ensures tells { IfOk result (λ line. TellsProgram bytes.now (kept.program_of line)) }
     {
         if let Some(name) = started_test(bytes) {
-            return event_line(alloc, bytes, 0, Event::TestStarted { name }, None);
+            let content = Content::test_started(alloc, name)?;
+            return event_line(alloc, bytes, 0, content, None);
         }
         match value_in(alloc, bytes)? {
             Some((at, value)) => value_line(alloc, bytes, at, &value),
@@ -115,42 +116,15 @@ impl Line {
     }
 }
 
-/// Returns the line whose event begins at an offset, and which says this of a program.
+/// Returns the line whose event has this content and begins at an offset, and which says this of a program.
 fn event_line(
-    alloc: Global,
-    bytes: &[u8],
-    at: usize,
-    event: Event<'_>,
-    program: Option<ProgramLine>,
-) -> Result<Line, AllocError>
-    requires { HoldsEvent bytes.now at (event_view event) }
-    ensures says { IfOk result (λ line. LineSays bytes.now (kept.events_of line)) }
-    ensures rest { IfOk result (λ line. RestOf bytes.now (kept.rest_of line)) }
-    ensures tells { IfOk result (λ line. line.program ≡ program) }
-{
-    let content = Content::of(alloc, event)?;
-    if at == 0 {
-        return Ok(Line {
-            before: None,
-            content,
-            damage: None,
-            rest: None,
-            program,
-        });
-    }
-    line_with_front(alloc, bytes, at, content, program)
-}
-
-/// Returns the line whose event has this content and begins at an offset after text that is no event.
-fn line_with_front(
     alloc: Global,
     bytes: &[u8],
     at: usize,
     content: Content,
     program: Option<ProgramLine>,
 ) -> Result<Line, AllocError>
-    requires later { 0 < at }
-    requires holds { HoldsEvent bytes.now at (kept.content_event content) }
+    requires { HoldsEvent bytes.now at (kept.content_event content) }
     ensures says { IfOk result (λ line. LineSays bytes.now (kept.events_of line)) }
     ensures rest { IfOk result (λ line. RestOf bytes.now (kept.rest_of line)) }
     ensures tells { IfOk result (λ line. line.program ≡ program) }
@@ -160,7 +134,7 @@ fn line_with_front(
         before: None,
         content,
         damage,
-        rest: Some(at),
+        rest: (at > 0).then_some(at),
         program,
     })
 }
@@ -260,10 +234,11 @@ fn value_line(alloc: Global, bytes: &[u8], at: usize, value: &Value) -> Result<L
 {
     let members = Members::of(value);
     let time = members.time_in(bytes);
-    match members.event(time) {
-        Some(event) => {
+    match members.event_kind() {
+        Some(kind) => {
+            let content = members.content(alloc, time, kind)?;
             let program = ProgramLine::of(alloc, value)?;
-            event_line(alloc, bytes, at, event, program)
+            event_line(alloc, bytes, at, content, program)
         }
         None => print_line(alloc, bytes),
     }

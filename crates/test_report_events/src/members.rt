@@ -1,18 +1,21 @@
 //! The members of the JSON object of an event.
 
-ghost use Rattle.std.specs.Prelude.{◌≡◌, Option, Some, codes, option_and_then, option_map, if◌then◌else◌};
+ghost use Rattle.std.specs.Prelude.{◌≡◌, ℕ, IfOk, Option, Some, codes, option_and_then, option_map, if◌then◌else◌};
 ghost use Rattle.std.specs.Str.{bytes_eq};
-ghost use Rattle.serde_json.specs.Data.{Members as MemberList, object, put};
+ghost use Rattle.serde_json.specs.Data.{Data, Members as MemberList, object, put};
 ghost use Rattle.serde_json.specs.Find.{as_str, get};
 ghost use Rattle.serde_json.specs.View.{view};
-ghost use Rattle.test_report_events.specs.Event.{TestEnds, event_view, suite_end_view, text_of_key};
+ghost use Rattle.test_report_events.specs.Content.{content_event};
+ghost use Rattle.test_report_events.specs.Event.{TestEnds, suite_end_view, text_of_key};
 ghost use Rattle.test_report_events.specs.Members.{AreMembersOf};
 ghost use Rattle.test_report_events.specs.Said as said;
-ghost use Rattle.test_report_events.specs.Table.{bench_result, object_said, suite_end_said, suite_said, test_end_said, test_said, typed_said};
+ghost use Rattle.test_report_events.specs.Table.{bench_result, kind_said, object_said, suite_end_said, suite_said, test_end_said, test_said, typed_said};
 
-use crate::event::{Event, SuiteEnd, SuiteKey, TestDetails, TestResult};
+use crate::content::Content;
+use crate::event::{SuiteEnd, SuiteKey, TestDetails, TestResult};
 use crate::time::exec_time;
 use serde_json::Value;
+use std::alloc::{AllocError, Global};
 
 /// The greatest number of tests that a line can have.
 const GREATEST_COUNT: u64 = 0xFFFF_FFFF;
@@ -30,13 +33,38 @@ pub(crate) struct Members<'a> {
     time: Option<&'a Value>,
 }
 
-/// Keeps the value of a member if its key is this word.
-fn keep<'a>(kept: &mut Option<&'a Value>, word: &str, key: &str, value: &'a Value)
-    ensures { kept.new ≡ (if bytes_eq key.now word.now then Some value.entry else kept.old) }
+/// The kind of an object's event, and what tells it from others of its kind.
+#[derive(Clone, Copy)]
+pub(crate) enum EventKind<'a> {
+    /// A suite starts.
+    SuiteStarted,
+
+    /// A suite ends.
+    SuiteEnded { failed_verdict: bool },
+
+    /// A test starts.
+    TestStarted { name: &'a str },
+
+    /// A test or a benchmark ends.
+    TestEnded { name: &'a str, result: TestResult },
+
+    /// A test is slow.
+    TestSlow { name: &'a str },
+
+    /// Another line of a test harness.
+    Other,
+}
+
+/// Returns the value that is kept for a word, after one more member.
+fn kept_for<'a>(
+    old: Option<&'a Value>,
+    word: &str,
+    key: &str,
+    value: &'a Value,
+) -> Option<&'a Value>
+    ensures { result ≡ (if bytes_eq key.now word.now then Some value.entry else old.entry) }
 {
-    if key == word {
-        *kept = Some(value);
-    }
+    if key == word { Some(value) } else { old }
 }
 
 /// Returns the text of a member.
@@ -100,25 +128,28 @@ impl<'a> Members<'a> {
         };
         if let Some(map) = object.as_object() {
             for (key, value) in map.iter() {
-                members.take(key.as_str(), value);
+                members = members.with(key.as_str(), value);
             }
         }
         members
     }
 
-    /// Keeps the next member of the object, if its key is one of those above.
-    fn take(&mut self, key: &str, value: &'a Value)
-        ensures object { self.new.object ≡ self.old.object }
-        ensures takes { (ms : MemberList) → AreMembersOf (object ms) self.old
-            → AreMembersOf (object (put key.now (view value.now) ms)) self.new }
+    /// Returns the members after the next one of the object, which is kept if its key is one of those above.
+    fn with(self, key: &str, value: &'a Value) -> Members<'a>
+        ensures object { result.object ≡ self.entry.object }
+        ensures takes { (ms : MemberList) → AreMembersOf (object ms) self.entry
+            → AreMembersOf (object (put key.now (view value.now) ms)) result }
     {
-        keep(&mut self.kind, "type", key, value);
-        keep(&mut self.event, "event", key, value);
-        keep(&mut self.name, "name", key, value);
-        keep(&mut self.stdout, "stdout", key, value);
-        keep(&mut self.message, "message", key, value);
-        keep(&mut self.reason, "reason", key, value);
-        keep(&mut self.time, "exec_time", key, value);
+        Members {
+            object: self.object,
+            kind: kept_for(self.kind, "type", key, value),
+            event: kept_for(self.event, "event", key, value),
+            name: kept_for(self.name, "name", key, value),
+            stdout: kept_for(self.stdout, "stdout", key, value),
+            message: kept_for(self.message, "message", key, value),
+            reason: kept_for(self.reason, "reason", key, value),
+            time: kept_for(self.time, "exec_time", key, value),
+        }
     }
 
     /// Returns the text of `type`.
@@ -179,36 +210,6 @@ impl<'a> Members<'a> {
         }
     }
 
-    /// Returns the end of a test.
-    fn test_end(&self, time: Option<u64>, name: &'a str, outcome: TestResult) -> Event<'a>
-        requires { AreMembersOf (view self.now.object.now) self.now }
-        ensures { event_view result
-            ≡ TestEnds (test_end_said time (view self.now.object.now) name.now outcome) }
-    {
-        Event::TestEnded {
-            name,
-            result: outcome,
-            details: self.details(time),
-        }
-    }
-
-    /// Returns the event of a test's object.
-    #[tactic(auto, unfolding(crate::specs::Table::test_said))]
-    fn test_event(&self, time: Option<u64>, name: &'a str, event: &str) -> Option<Event<'a>>
-        requires { AreMembersOf (view self.now.object.now) self.now }
-        ensures { option_map event_view result
-            ≡ test_said time (view self.now.object.now) name.now event.now }
-    {
-        match event {
-            "started" => Some(Event::TestStarted { name }),
-            "ok" => Some(self.test_end(time, name, TestResult::Ok)),
-            "failed" => Some(self.test_end(time, name, TestResult::Failed)),
-            "ignored" => Some(self.test_end(time, name, TestResult::Ignored)),
-            "timeout" => Some(Event::TestSlow { name }),
-            _ => Some(Event::Other),
-        }
-    }
-
     /// Returns the result of a benchmark, which passed unless it failed.
     #[tactic(auto, unfolding(crate::specs::Table::bench_result))]
     fn bench_result(&self) -> TestResult
@@ -221,57 +222,138 @@ impl<'a> Members<'a> {
         }
     }
 
-    /// Returns the event of an object of the type `suite`.
-    fn suite_event(&self, time: Option<u64>) -> Option<Event<'a>>
+    /// Returns the kind of the event of a suite.
+    #[tactic(auto, unfolding(crate::specs::Table::suite_said))]
+    fn suite_kind(&self) -> Option<EventKind<'a>>
         requires { AreMembersOf (view self.now.object.now) self.now }
-        ensures { option_map event_view result
+        ensures { (time : Option ℕ) → option_map (kind_said time (view self.now.object.now)) result
             ≡ option_and_then (suite_said time (view self.now.object.now)) (said.text_of (codes "event") (view self.now.object.now)) }
     {
-        suite_event_of(self.object, time, self.event_word()?)
+        match self.event_word() {
+            Some("started") => Some(EventKind::SuiteStarted),
+            Some("ok") => Some(EventKind::SuiteEnded {
+                failed_verdict: false,
+            }),
+            Some("failed") => Some(EventKind::SuiteEnded {
+                failed_verdict: true,
+            }),
+            Some(_) => Some(EventKind::Other),
+            None => None,
+        }
     }
 
-    /// Returns the event of an object of the type `test`.
-    fn named_event(&self, time: Option<u64>) -> Option<Event<'a>>
+    /// Returns the kind of the event of a test.
+    fn named_kind(&self) -> Option<EventKind<'a>>
         requires { AreMembersOf (view self.now.object.now) self.now }
-        ensures { option_map event_view result
+        ensures { (time : Option ℕ) → option_map (kind_said time (view self.now.object.now)) result
             ≡ option_and_then (λ name. option_and_then (test_said time (view self.now.object.now) name) (said.text_of (codes "event") (view self.now.object.now)))
             (said.text_of (codes "name") (view self.now.object.now)) }
     {
-        self.test_event(time, self.name()?, self.event_word()?)
-    }
-
-    /// Returns the event of an object of the type `bench`.
-    fn bench_event(&self, time: Option<u64>) -> Option<Event<'a>>
-        requires { AreMembersOf (view self.now.object.now) self.now }
-        ensures { option_map event_view result
-            ≡ option_and_then (λ name. Some (TestEnds (test_end_said time (view self.now.object.now) name (bench_result (view self.now.object.now)))))
-            (said.text_of (codes "name") (view self.now.object.now)) }
-    {
-        let name = self.name()?;
-        Some(self.test_end(time, name, self.bench_result()))
-    }
-
-    /// Returns the event of an object of a type.
-    #[tactic(auto, unfolding(crate::specs::Table::typed_said))]
-    fn typed_event(&self, time: Option<u64>, kind: &str) -> Option<Event<'a>>
-        requires { AreMembersOf (view self.now.object.now) self.now }
-        ensures { option_map event_view result ≡ typed_said time (view self.now.object.now) kind.now }
-    {
-        match kind {
-            "report" | "program" | "command" => Some(Event::Other),
-            "suite" => self.suite_event(time),
-            "test" => self.named_event(time),
-            "bench" => self.bench_event(time),
+        match (self.name(), self.event_word()) {
+            (Some(name), Some(event)) => Some(test_kind(name, event)),
             _ => None,
         }
     }
 
-    /// Returns the event of the object with a time.
-    pub(crate) fn event(&self, time: Option<u64>) -> Option<Event<'a>>
+    /// Returns the kind of the event of a benchmark.
+    fn bench_kind(&self) -> Option<EventKind<'a>>
         requires { AreMembersOf (view self.now.object.now) self.now }
-        ensures { option_map event_view result ≡ object_said time (view self.now.object.now) }
+        ensures { (time : Option ℕ) → option_map (kind_said time (view self.now.object.now)) result
+            ≡ option_and_then (λ name. Some (TestEnds (test_end_said time (view self.now.object.now) name (bench_result (view self.now.object.now)))))
+            (said.text_of (codes "name") (view self.now.object.now)) }
     {
-        self.typed_event(time, self.kind()?)
+        match self.name() {
+            Some(name) => Some(EventKind::TestEnded {
+                name,
+                result: self.bench_result(),
+            }),
+            None => None,
+        }
+    }
+
+    /// Returns the kind of the event of an object of a type.
+    #[tactic(auto, unfolding(crate::specs::Table::typed_said))]
+    fn typed_kind(&self, kind: &str) -> Option<EventKind<'a>>
+        requires { AreMembersOf (view self.now.object.now) self.now }
+        ensures { (time : Option ℕ) → option_map (kind_said time (view self.now.object.now)) result
+            ≡ typed_said time (view self.now.object.now) kind.now }
+    {
+        match kind {
+            "report" | "program" | "command" => Some(EventKind::Other),
+            "suite" => self.suite_kind(),
+            "test" => self.named_kind(),
+            "bench" => self.bench_kind(),
+            _ => None,
+        }
+    }
+
+    /// Returns the kind of the event of the object, or `None` if the object is no event.
+    pub(crate) fn event_kind(&self) -> Option<EventKind<'a>>
+        requires { AreMembersOf (view self.now.object.now) self.now }
+        ensures { (time : Option ℕ) → option_map (kind_said time (view self.now.object.now)) result
+            ≡ object_said time (view self.now.object.now) }
+    {
+        match self.kind() {
+            Some(kind) => self.typed_kind(kind),
+            None => None,
+        }
+    }
+
+    /// Returns the event of this kind, with a copy of its texts.
+    pub(crate) fn content(
+        &self,
+        alloc: Global,
+        time: Option<u64>,
+        kind: EventKind<'_>,
+    ) -> Result<Content, AllocError>
+        requires { AreMembersOf (view self.now.object.now) self.now }
+        ensures { IfOk result (λ content. content_event content ≡ kind_said time (view self.now.object.now) kind.entry) }
+    {
+        let object = self.object;
+        match kind {
+            EventKind::SuiteStarted => Content::suite_started(
+                alloc,
+                key_of(object),
+                count_of(object, "test_count"),
+            ),
+            EventKind::SuiteEnded { failed_verdict } => Content::suite_ended(
+                alloc,
+                suite_end_of(object, time, failed_verdict),
+            ),
+            EventKind::TestStarted { name } => Content::test_started(alloc, name),
+            EventKind::TestEnded {
+                name,
+                result: outcome,
+            } => Content::test_ended(alloc, name, outcome, self.details(time)),
+            EventKind::TestSlow { name } => Ok(Content::TestSlow {
+                name: String::from_str(alloc, name)?,
+            }),
+            EventKind::Other => Ok(Content::Other),
+        }
+    }
+}
+
+/// Returns the kind of a test's event.
+#[tactic(auto, unfolding(crate::specs::Table::test_said))]
+fn test_kind<'a>(name: &'a str, event: &str) -> EventKind<'a>
+    ensures { (time : Option ℕ) (d : Data) → test_said time d name.now event.now ≡ Some (kind_said time d result) }
+{
+    match event {
+        "started" => EventKind::TestStarted { name },
+        "ok" => EventKind::TestEnded {
+            name,
+            result: TestResult::Ok,
+        },
+        "failed" => EventKind::TestEnded {
+            name,
+            result: TestResult::Failed,
+        },
+        "ignored" => EventKind::TestEnded {
+            name,
+            result: TestResult::Ignored,
+        },
+        "timeout" => EventKind::TestSlow { name },
+        _ => EventKind::Other,
     }
 }
 
@@ -299,21 +381,5 @@ fn suite_end_of(value: &Value, time: Option<u64>, failed_verdict: bool) -> Suite
         ignored: count_of(value, "ignored"),
         measured: count_of(value, "measured"),
         time,
-    }
-}
-
-/// Returns the event of a suite's object.
-#[tactic(auto, unfolding(crate::specs::Table::suite_said))]
-fn suite_event_of<'a>(value: &'a Value, time: Option<u64>, event: &str) -> Option<Event<'a>>
-    ensures { option_map event_view result ≡ suite_said time (view value.now) event.now }
-{
-    match event {
-        "started" => Some(Event::SuiteStarted {
-            key: key_of(value),
-            test_count: count_of(value, "test_count"),
-        }),
-        "ok" => Some(Event::SuiteEnded(suite_end_of(value, time, false))),
-        "failed" => Some(Event::SuiteEnded(suite_end_of(value, time, true))),
-        _ => Some(Event::Other),
     }
 }

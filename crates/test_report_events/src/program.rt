@@ -179,9 +179,9 @@ fn end_of(object: &Value) -> Option<ProgramEnd>
 fn reason_of(object: &Value) -> Option<CancelReason>
     ensures { result ≡ spec.cancelled_of (view object.now) }
 {
-    match text_of(object, "cancelled")? {
-        "Interrupt" => Some(CancelReason::Interrupt),
-        "Signal" => Some(CancelReason::Signal),
+    match text_of(object, "cancelled") {
+        Some("Interrupt") => Some(CancelReason::Interrupt),
+        Some("Signal") => Some(CancelReason::Signal),
         _ => None,
     }
 }

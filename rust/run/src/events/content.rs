@@ -77,36 +77,8 @@ pub(crate) struct TestEnd {
 }
 
 impl Content {
-    /// Returns an event with a copy of its texts.
-    pub(crate) fn of(event: Event<'_>) -> Content {
-        match event {
-            Event::SuiteStarted { key, test_count } => Content::suite_started(key, test_count),
-            Event::SuiteEnded(end) => Content::suite_ended(end),
-            Event::TestStarted { name } => Content::TestStarted {
-                name: String::from(name),
-            },
-            Event::TestEnded {
-                name,
-                result: outcome,
-                details,
-            } => Content::test_ended(name, outcome, details),
-            Event::TestSlow { name } => Content::TestSlow {
-                name: String::from(name),
-            },
-            Event::Other => Content::Other,
-            Event::Heading { suite, path } => Content::heading(suite, path),
-            Event::CargoFailed {
-                failure,
-                line,
-                plain,
-            } => Content::failure(failure, line, plain),
-            Event::Print { line, plain } => Content::print(line, plain),
-            Event::Damaged { text } => Content::Damaged(String::from(text)),
-        }
-    }
-
     /// Returns the start of a suite with a copy of its texts.
-    fn suite_started(key: Option<SuiteKey<'_>>, test_count: Option<u64>) -> Content {
+    pub(crate) fn suite_started(key: Option<SuiteKey<'_>>, test_count: Option<u64>) -> Content {
         Content::SuiteStarted {
             key: key_texts(key),
             test_count,
@@ -114,7 +86,7 @@ impl Content {
     }
 
     /// Returns the end of a suite with a copy of its texts.
-    fn suite_ended(end: SuiteEnd<'_>) -> Content {
+    pub(crate) fn suite_ended(end: SuiteEnd<'_>) -> Content {
         Content::SuiteEnded(LastLine {
             key: key_texts(end.key),
             failed_verdict: end.failed_verdict,
@@ -126,8 +98,15 @@ impl Content {
         })
     }
 
+    /// Returns the start of a test with a copy of its name.
+    pub(crate) fn test_started(name: &str) -> Content {
+        Content::TestStarted {
+            name: String::from(name),
+        }
+    }
+
     /// Returns the end of a test with a copy of its texts.
-    fn test_ended(name: &str, outcome: TestResult, details: TestDetails<'_>) -> Content {
+    pub(crate) fn test_ended(name: &str, outcome: TestResult, details: TestDetails<'_>) -> Content {
         Content::TestEnded(TestEnd {
             name: String::from(name),
             result: outcome,
@@ -136,14 +115,6 @@ impl Content {
             reason: owned(details.reason),
             time: details.time,
         })
-    }
-
-    /// Returns a heading of cargo with a copy of its texts.
-    fn heading(suite: &str, path: Option<&str>) -> Content {
-        Content::Heading {
-            suite: String::from(suite),
-            path: owned(path),
-        }
     }
 
     /// Returns a failure that cargo or nextest reports with a copy of its texts.

@@ -40,7 +40,8 @@ impl Line {
     /// cargo are found in the same way at the end of a line.
     pub fn read(bytes: &[u8]) -> Line {
         if let Some(name) = started_test(bytes) {
-            return event_line(bytes, 0, Event::TestStarted { name }, None);
+            let content = Content::test_started(name);
+            return event_line(bytes, 0, content, None);
         }
         match value_in(bytes) {
             Some((at, value)) => value_line(bytes, at, &value),
@@ -79,34 +80,14 @@ impl Line {
     }
 }
 
-/// Returns the line whose event begins at an offset, and which says this of a program.
-fn event_line(bytes: &[u8], at: usize, event: Event<'_>, program: Option<ProgramLine>) -> Line {
-    let content = Content::of(event);
-    if at == 0 {
-        return Line {
-            before: None,
-            content,
-            damage: None,
-            rest: None,
-            program,
-        };
-    }
-    line_with_front(bytes, at, content, program)
-}
-
-/// Returns the line whose event has this content and begins at an offset after text that is no event.
-fn line_with_front(
-    bytes: &[u8],
-    at: usize,
-    content: Content,
-    program: Option<ProgramLine>,
-) -> Line {
+/// Returns the line whose event has this content and begins at an offset, and which says this of a program.
+fn event_line(bytes: &[u8], at: usize, content: Content, program: Option<ProgramLine>) -> Line {
     let damage = damage_of(&bytes[..at]);
     Line {
         before: None,
         content,
         damage,
-        rest: Some(at),
+        rest: (at > 0).then_some(at),
         program,
     }
 }
@@ -178,10 +159,11 @@ fn last_object(line: &[u8]) -> Option<usize> {
 fn value_line(bytes: &[u8], at: usize, value: &Value) -> Line {
     let members = Members::of(value);
     let time = members.time_in(bytes);
-    match members.event(time) {
-        Some(event) => {
+    match members.event_kind() {
+        Some(kind) => {
+            let content = members.content(time, kind);
             let program = ProgramLine::of(value);
-            event_line(bytes, at, event, program)
+            event_line(bytes, at, content, program)
         }
         None => print_line(bytes),
     }

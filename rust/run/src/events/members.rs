@@ -1,7 +1,8 @@
 // Made by tools/erase from crates/test_report_events/src/members.rt. Do not edit.
 //! The members of the JSON object of an event.
 
-use crate::events::event::{Event, SuiteEnd, SuiteKey, TestDetails, TestResult};
+use crate::events::content::Content;
+use crate::events::event::{SuiteEnd, SuiteKey, TestDetails, TestResult};
 use crate::events::time::exec_time;
 use serde_json::Value;
 
@@ -21,11 +22,36 @@ pub(crate) struct Members<'a> {
     time: Option<&'a Value>,
 }
 
-/// Keeps the value of a member if its key is this word.
-fn keep<'a>(kept: &mut Option<&'a Value>, word: &str, key: &str, value: &'a Value) {
-    if key == word {
-        *kept = Some(value);
-    }
+/// The kind of an object's event, and what tells it from others of its kind.
+#[derive(Clone, Copy, Debug)]
+pub(crate) enum EventKind<'a> {
+    /// A suite starts.
+    SuiteStarted,
+
+    /// A suite ends.
+    SuiteEnded { failed_verdict: bool },
+
+    /// A test starts.
+    TestStarted { name: &'a str },
+
+    /// A test or a benchmark ends.
+    TestEnded { name: &'a str, result: TestResult },
+
+    /// A test is slow.
+    TestSlow { name: &'a str },
+
+    /// Another line of a test harness.
+    Other,
+}
+
+/// Returns the value that is kept for a word, after one more member.
+fn kept_for<'a>(
+    old: Option<&'a Value>,
+    word: &str,
+    key: &str,
+    value: &'a Value,
+) -> Option<&'a Value> {
+    if key == word { Some(value) } else { old }
 }
 
 /// Returns the text of a member.
@@ -74,21 +100,24 @@ impl<'a> Members<'a> {
         };
         if let Some(map) = object.as_object() {
             for (key, value) in map.iter() {
-                members.take(key.as_str(), value);
+                members = members.with(key.as_str(), value);
             }
         }
         members
     }
 
-    /// Keeps the next member of the object, if its key is one of those above.
-    fn take(&mut self, key: &str, value: &'a Value) {
-        keep(&mut self.kind, "type", key, value);
-        keep(&mut self.event, "event", key, value);
-        keep(&mut self.name, "name", key, value);
-        keep(&mut self.stdout, "stdout", key, value);
-        keep(&mut self.message, "message", key, value);
-        keep(&mut self.reason, "reason", key, value);
-        keep(&mut self.time, "exec_time", key, value);
+    /// Returns the members after the next one of the object, which is kept if its key is one of those above.
+    fn with(self, key: &str, value: &'a Value) -> Members<'a> {
+        Members {
+            object: self.object,
+            kind: kept_for(self.kind, "type", key, value),
+            event: kept_for(self.event, "event", key, value),
+            name: kept_for(self.name, "name", key, value),
+            stdout: kept_for(self.stdout, "stdout", key, value),
+            message: kept_for(self.message, "message", key, value),
+            reason: kept_for(self.reason, "reason", key, value),
+            time: kept_for(self.time, "exec_time", key, value),
+        }
     }
 
     /// Returns the text of `type`.
@@ -125,27 +154,6 @@ impl<'a> Members<'a> {
         }
     }
 
-    /// Returns the end of a test.
-    fn test_end(&self, time: Option<u64>, name: &'a str, outcome: TestResult) -> Event<'a> {
-        Event::TestEnded {
-            name,
-            result: outcome,
-            details: self.details(time),
-        }
-    }
-
-    /// Returns the event of a test's object.
-    fn test_event(&self, time: Option<u64>, name: &'a str, event: &str) -> Option<Event<'a>> {
-        match event {
-            "started" => Some(Event::TestStarted { name }),
-            "ok" => Some(self.test_end(time, name, TestResult::Ok)),
-            "failed" => Some(self.test_end(time, name, TestResult::Failed)),
-            "ignored" => Some(self.test_end(time, name, TestResult::Ignored)),
-            "timeout" => Some(Event::TestSlow { name }),
-            _ => Some(Event::Other),
-        }
-    }
-
     /// Returns the result of a benchmark, which passed unless it failed.
     fn bench_result(&self) -> TestResult {
         match self.event_word() {
@@ -154,36 +162,100 @@ impl<'a> Members<'a> {
         }
     }
 
-    /// Returns the event of an object of the type `suite`.
-    fn suite_event(&self, time: Option<u64>) -> Option<Event<'a>> {
-        suite_event_of(self.object, time, self.event_word()?)
+    /// Returns the kind of the event of a suite.
+    fn suite_kind(&self) -> Option<EventKind<'a>> {
+        match self.event_word() {
+            Some("started") => Some(EventKind::SuiteStarted),
+            Some("ok") => Some(EventKind::SuiteEnded {
+                failed_verdict: false,
+            }),
+            Some("failed") => Some(EventKind::SuiteEnded {
+                failed_verdict: true,
+            }),
+            Some(_) => Some(EventKind::Other),
+            None => None,
+        }
     }
 
-    /// Returns the event of an object of the type `test`.
-    fn named_event(&self, time: Option<u64>) -> Option<Event<'a>> {
-        self.test_event(time, self.name()?, self.event_word()?)
-    }
-
-    /// Returns the event of an object of the type `bench`.
-    fn bench_event(&self, time: Option<u64>) -> Option<Event<'a>> {
-        let name = self.name()?;
-        Some(self.test_end(time, name, self.bench_result()))
-    }
-
-    /// Returns the event of an object of a type.
-    fn typed_event(&self, time: Option<u64>, kind: &str) -> Option<Event<'a>> {
-        match kind {
-            "report" | "program" | "command" => Some(Event::Other),
-            "suite" => self.suite_event(time),
-            "test" => self.named_event(time),
-            "bench" => self.bench_event(time),
+    /// Returns the kind of the event of a test.
+    fn named_kind(&self) -> Option<EventKind<'a>> {
+        match (self.name(), self.event_word()) {
+            (Some(name), Some(event)) => Some(test_kind(name, event)),
             _ => None,
         }
     }
 
-    /// Returns the event of the object with a time.
-    pub(crate) fn event(&self, time: Option<u64>) -> Option<Event<'a>> {
-        self.typed_event(time, self.kind()?)
+    /// Returns the kind of the event of a benchmark.
+    fn bench_kind(&self) -> Option<EventKind<'a>> {
+        match self.name() {
+            Some(name) => Some(EventKind::TestEnded {
+                name,
+                result: self.bench_result(),
+            }),
+            None => None,
+        }
+    }
+
+    /// Returns the kind of the event of an object of a type.
+    fn typed_kind(&self, kind: &str) -> Option<EventKind<'a>> {
+        match kind {
+            "report" | "program" | "command" => Some(EventKind::Other),
+            "suite" => self.suite_kind(),
+            "test" => self.named_kind(),
+            "bench" => self.bench_kind(),
+            _ => None,
+        }
+    }
+
+    /// Returns the kind of the event of the object, or `None` if the object is no event.
+    pub(crate) fn event_kind(&self) -> Option<EventKind<'a>> {
+        match self.kind() {
+            Some(kind) => self.typed_kind(kind),
+            None => None,
+        }
+    }
+
+    /// Returns the event of this kind, with a copy of its texts.
+    pub(crate) fn content(&self, time: Option<u64>, kind: EventKind<'_>) -> Content {
+        let object = self.object;
+        match kind {
+            EventKind::SuiteStarted => {
+                Content::suite_started(key_of(object), count_of(object, "test_count"))
+            }
+            EventKind::SuiteEnded { failed_verdict } => {
+                Content::suite_ended(suite_end_of(object, time, failed_verdict))
+            }
+            EventKind::TestStarted { name } => Content::test_started(name),
+            EventKind::TestEnded {
+                name,
+                result: outcome,
+            } => Content::test_ended(name, outcome, self.details(time)),
+            EventKind::TestSlow { name } => Content::TestSlow {
+                name: String::from(name),
+            },
+            EventKind::Other => Content::Other,
+        }
+    }
+}
+
+/// Returns the kind of a test's event.
+fn test_kind<'a>(name: &'a str, event: &str) -> EventKind<'a> {
+    match event {
+        "started" => EventKind::TestStarted { name },
+        "ok" => EventKind::TestEnded {
+            name,
+            result: TestResult::Ok,
+        },
+        "failed" => EventKind::TestEnded {
+            name,
+            result: TestResult::Failed,
+        },
+        "ignored" => EventKind::TestEnded {
+            name,
+            result: TestResult::Ignored,
+        },
+        "timeout" => EventKind::TestSlow { name },
+        _ => EventKind::Other,
     }
 }
 
@@ -207,18 +279,5 @@ fn suite_end_of(value: &Value, time: Option<u64>, failed_verdict: bool) -> Suite
         ignored: count_of(value, "ignored"),
         measured: count_of(value, "measured"),
         time,
-    }
-}
-
-/// Returns the event of a suite's object.
-fn suite_event_of<'a>(value: &'a Value, time: Option<u64>, event: &str) -> Option<Event<'a>> {
-    match event {
-        "started" => Some(Event::SuiteStarted {
-            key: key_of(value),
-            test_count: count_of(value, "test_count"),
-        }),
-        "ok" => Some(Event::SuiteEnded(suite_end_of(value, time, false))),
-        "failed" => Some(Event::SuiteEnded(suite_end_of(value, time, true))),
-        _ => Some(Event::Other),
     }
 }

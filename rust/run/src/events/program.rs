@@ -149,9 +149,9 @@ fn end_of(object: &Value) -> Option<ProgramEnd> {
 
 /// Returns why the run is cancelled.
 fn reason_of(object: &Value) -> Option<CancelReason> {
-    match text_of(object, "cancelled")? {
-        "Interrupt" => Some(CancelReason::Interrupt),
-        "Signal" => Some(CancelReason::Signal),
+    match text_of(object, "cancelled") {
+        Some("Interrupt") => Some(CancelReason::Interrupt),
+        Some("Signal") => Some(CancelReason::Signal),
         _ => None,
     }
 }

@@ -1,14 +1,12 @@
-use Rattle.std.proofs.Common.{[], ◌∷◌, ap, subst, sym}
-use Rattle.test_report_events.proofs.Readings.{whole_line}
-use Rattle.test_report_events.specs.Event.{event_view}
-use Rattle.test_report_events.specs.Line.{HoldsEvent}
+use Rattle.std.proofs.Common.{option_map, refl}
+use Rattle.test_report_events.proofs.Readings.{front_of, held_line, held_rest}
+use Rattle.test_report_events.specs.Content.{content_event}
 use Rattle.test_report_events.proofs.line.event_line.Goals as goal
 
-pub returns-then-at-eq0-clause-says : goal.returns-then-at-eq0-clause-says
-returns-then-at-eq0-clause-says c =
-    whole_line c.args.bytes.now _ (event_view c.args.event)
-    (subst (λ k. HoldsEvent c.args.bytes.now k (event_view c.args.event)) c.if-at-eq0.true c.requires)
-    (ap (λ e. e ∷ []) c.in_ok-content.ensures)
+pub returns-clause-says : goal.returns-clause-says
+returns-clause-says c =
+    held_line c.args.bytes.now _ c.args.at (content_event c.args.content) (option_map content_event c.in_ok-damage.damage) _ c.requires
+    c.in_ok-damage.ensures (front_of c.args.at _ c.then_some.ensures) refl
 
-pub line_with_front-requires-clause-holds : goal.line_with_front-requires-clause-holds
-line_with_front-requires-clause-holds c = subst (HoldsEvent c.args.bytes.now c.args.at) (sym c.in_ok-content.ensures) c.requires
+pub returns-clause-rest : goal.returns-clause-rest
+returns-clause-rest c = held_rest c.args.bytes.now c.args.at _ _ c.requires (front_of c.args.at _ c.then_some.ensures)

@@ -1,10 +1,10 @@
 -- The event of the object, or a print.
-use Rattle.std.proofs.Common.{◌≡◌, ◌∙◌, None, ap, option_map, subst, sym}
+use Rattle.std.proofs.Common.{◌≡◌, ◌∙◌, None, Some, ap, option_map, subst, sym}
 use Rattle.std.proofs.lemmas.Result.{IfOk-weaker}
 use Rattle.serde_json.specs.View.{view}
-use Rattle.test_report_events.specs.Event.{event_view}
+use Rattle.test_report_events.specs.Content.{content_event}
 use Rattle.test_report_events.specs.Said.{IsTime}
-use Rattle.test_report_events.specs.Table.{object_said}
+use Rattle.test_report_events.specs.Table.{kind_said, object_said}
 use Rattle.test_report_events.proofs.Events.{tells-none}
 use Rattle.test_report_events.proofs.Readings.{object_is, object_none, tells_held, tells_kept, value_print}
 use Rattle.test_report_events.proofs.line.value_line.Goals as goal
@@ -14,27 +14,31 @@ event_line-requires c =
     let d = view c.args.value.now in
     let same : view c.of-members.result.object.now ≡ d = ap view c.of-members.ensures.object in
     let time = c.time_in-time.result in
-    let said : option_map event_view c.event.result ≡ object_said time d = c.event.ensures ∙ ap (object_said time) same in
-    object_is c.args.bytes.now c.args.at d time (event_view c.in-Some.event) c.requires
-    (subst (λ x. IsTime c.args.bytes.now x time) same c.time_in-time.ensures) (sym said ∙ ap (option_map event_view) c.in-Some.is)
+    let kinds = option_map (kind_said time (view c.of-members.result.object.now)) in
+    let said : kinds c.event_kind.result ≡ object_said time d = c.event_kind.ensures time ∙ ap (object_said time) same in
+    object_is c.args.bytes.now c.args.at d time (content_event c.in_ok-content-in-Some.content) c.requires
+    (subst (λ x. IsTime c.args.bytes.now x time) same c.time_in-time.ensures)
+    (sym said ∙ (ap kinds c.in-Some.is ∙ ap (λ x. Some x) (sym c.in_ok-content-in-Some.ensures)))
 
 pub print_line-requires-clause-none : goal.print_line-requires-clause-none
 print_line-requires-clause-none c =
     let d = view c.args.value.now in
     let same : view c.of-members.result.object.now ≡ d = ap view c.of-members.ensures.object in
     let time = c.time_in-time.result in
-    let said : option_map event_view c.event.result ≡ object_said time d = c.event.ensures ∙ ap (object_said time) same in
+    let kinds = option_map (kind_said time (view c.of-members.result.object.now)) in
+    let said : kinds c.event_kind.result ≡ object_said time d = c.event_kind.ensures time ∙ ap (object_said time) same in
     object_none c.args.bytes.now c.args.at d time c.requires
-    (subst (λ x. IsTime c.args.bytes.now x time) same c.time_in-time.ensures) (sym said ∙ ap (option_map event_view) c.in-None.is)
+    (subst (λ x. IsTime c.args.bytes.now x time) same c.time_in-time.ensures) (sym said ∙ ap kinds c.in-None.is)
 
 pub print_line-requires-clause-says : goal.print_line-requires-clause-says
 print_line-requires-clause-says c =
     let d = view c.args.value.now in
     let same : view c.of-members.result.object.now ≡ d = ap view c.of-members.ensures.object in
     let time = c.time_in-time.result in
-    let said : option_map event_view c.event.result ≡ object_said time d = c.event.ensures ∙ ap (object_said time) same in
+    let kinds = option_map (kind_said time (view c.of-members.result.object.now)) in
+    let said : kinds c.event_kind.result ≡ object_said time d = c.event_kind.ensures time ∙ ap (object_said time) same in
     let none = object_none c.args.bytes.now c.args.at d time c.requires
-    (subst (λ x. IsTime c.args.bytes.now x time) same c.time_in-time.ensures) (sym said ∙ ap (option_map event_view) c.in-None.is) in
+    (subst (λ x. IsTime c.args.bytes.now x time) same c.time_in-time.ensures) (sym said ∙ ap kinds c.in-None.is) in
     λ e is_print. value_print c.args.bytes.now c.args.at d e c.requires none is_print
 
 pub returns-in_ok-program-in-Some-clause-tells : goal.returns-in_ok-program-in-Some-clause-tells
@@ -49,8 +53,9 @@ returns-in-None-clause-tells c =
     let d = view c.args.value.now in
     let same : view c.of-members.result.object.now ≡ d = ap view c.of-members.ensures.object in
     let time = c.time_in-time.result in
-    let said : option_map event_view c.event.result ≡ object_said time d = c.event.ensures ∙ ap (object_said time) same in
+    let kinds = option_map (kind_said time (view c.of-members.result.object.now)) in
+    let said : kinds c.event_kind.result ≡ object_said time d = c.event_kind.ensures time ∙ ap (object_said time) same in
     IfOk-weaker c.print_line.result _ _
     (λ line. tells_kept c.args.bytes.now line None
-    (tells_held c.args.bytes.now c.args.at d None c.requires (sym (tells-none d time (sym said ∙ ap (option_map event_view) c.in-None.is)))))
+    (tells_held c.args.bytes.now c.args.at d None c.requires (sym (tells-none d time (sym said ∙ ap kinds c.in-None.is)))))
     c.print_line.ensures.tells

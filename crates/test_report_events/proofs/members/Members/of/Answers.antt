@@ -18,10 +18,10 @@ loop-key-preserved c =
     c.loop-key.invariant.1 ∙ ap (λ es. done ++ es) c.in-Some-2.ensures.steps in
     let entries = sym (c.into_iter-key-iterator.ensures.into_iter_gives ∙ c.iter-key-items.ensures.rest) ∙ all in
     let sorted = subst (λ es. IsStrictlySortedBy string_cmp (keys_of es)) entries c.iter-key-items.ensures.ordered in
-    let taken = subst (λ k. AreMembersOf (object (put k (view e.1) (members_view done))) c.take.new.self) c.as_str.ensures.value
-    (c.take.ensures.takes (members_view done) c.loop-key.invariant.2) in (
+    let taken = subst (λ k. AreMembersOf (object (put k (view e.1) (members_view done))) c.with-members.result) c.as_str.ensures.value
+    (c.with-members.ensures.takes (members_view done) c.loop-key.invariant.2) in (
       done ++ e ∷ [],
       all ∙ sym (append_assoc done (e ∷ []) left),
-      one_more_member done e left c.take.new.self sorted taken,
-      c.take.ensures.object ∙ c.loop-key.invariant.3,
+      one_more_member done e left c.with-members.result sorted taken,
+      c.with-members.ensures.object ∙ c.loop-key.invariant.3,
     )
