@@ -10,12 +10,12 @@ use Rattle.std.proofs.Math.ListN.{set}
 use Rattle.std.proofs.lemmas.List.{length-map, map-set}
 use Rattle.std.proofs.lemmas.Option.{same_Some, slice_get-map, slice_get-get_or}
 use Rattle.test_report_run_notes.proofs.Places.{map-remove, position-map}
-use Rattle.test_report_run.specs.Running.{RunningView, no_test, running_at, running_test_view, running_view, with_slow}
+use Rattle.test_report_run.specs.Running.{RunningView, ended_at, no_test, running_at, running_test_view, running_view, with_slow}
 use Rattle.test_report_run.specs.declared.running.RunningTest.{RunningTest}
 use Rattle.test_report_run.proofs.Firsts.{IsFirst}
 
 -- the position of the first test that passes
-place_view : (q : RunningView → Bool) (tests : List RunningTest) → position_or_len (λ t. q (running_test_view t)) tests < length tests
+pub place_view : (q : RunningView → Bool) (tests : List RunningTest) → position_or_len (λ t. q (running_test_view t)) tests < length tests
     → position q (running_view tests) ≡ Some (position_or_len (λ t. q (running_test_view t)) tests)
 place_view q tests within =
     position-map q running_test_view tests
@@ -98,3 +98,20 @@ pub slow_view : (q : RunningView → Bool) (es after : List (ℕ × RunningTest)
     → running_view (values_of after)
     ≡ option_map_or (with_slow (running_view (values_of es))) (position q (running_view (values_of es))) (running_view (values_of es))
 slow_view q es after n first changed = slow_found q es after n (lookup (is_at (nat_cmp n)) es) first refl changed
+
+-- the position of a test, with the number of its attempts
+pub by_place : {X : Type 0} (f : ℕ → X) (other : X) (attempts : ℕ) (place : Option ℕ)
+    → option_map_or f place other ≡ option_map_or (λ p. f p.0) (option_map {U = ℕ × ℕ} (λ at. (at, attempts)) place) other
+by_place f other attempts None = refl
+by_place f other attempts (Some at) = refl
+
+pub map_place : {X : Type 0} (f : ℕ → X) (attempts : ℕ) (place : Option ℕ)
+    → option_map f place ≡ option_map (λ p. f p.0) (option_map {U = ℕ × ℕ} (λ at. (at, attempts)) place)
+map_place f attempts None = refl
+map_place f attempts (Some at) = refl
+
+pub view_place : (tests : List RunningView) (attempts : ℕ) (place : Option ℕ)
+    → option_map {U = RunningView × ℕ} (λ v. (v, attempts)) (option_map (running_at tests) place)
+    ≡ option_map (ended_at tests) (option_map {U = ℕ × ℕ} (λ at. (at, attempts)) place)
+view_place tests attempts None = refl
+view_place tests attempts (Some at) = refl

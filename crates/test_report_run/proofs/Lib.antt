@@ -10,6 +10,7 @@ pub mod KeySteps
 pub mod LastPrints
 pub mod Lines
 pub mod LongestEnds
+pub mod LoopSteps
 pub mod Named
 pub mod OpenSteps
 pub mod OrderSteps

@@ -15,10 +15,10 @@ use Rattle.test_report_run_notes.specs.declared.finish.Finish.TheVariants.{Passe
 use Rattle.test_report_run.specs.Ended.{after_end, after_flaky, end_notes, timed}
 use Rattle.test_report_run.specs.Others.{event_place}
 use Rattle.test_report_run.specs.Over.{EarlyEnd, early_notes, last_notes, nothing_known}
-use Rattle.test_report_run.specs.Run.{RunState, Step, ended_at, ended_early, heard, heard_at, last_place, opened, place_of_number, running_ends, slow_at, started_again, step, stray_ends, suite_at, suite_place, test_over, tests_in, with_suite_at, without_tests}
+use Rattle.test_report_run.specs.Run.{RunState, Step, ended_at, ended_early, heard, heard_at, last_place, opened, place_of_number, running_ends, slow_at, start_counted, started_again, step, stray_ends, suite_at, suite_place, test_over, test_starts, tests_in, with_suite_at, without_tests}
 use Rattle.test_report_run.specs.Running.{RunningView, ended_at as test_at, running_at, with_slow}
 use Rattle.test_report_run.specs.Name.{before_dollar}
-use Rattle.test_report_run.specs.Suite.{OverView, SuiteState, cancelled_by, has_key, joined_by, state_of, with_finish, with_line}
+use Rattle.test_report_run.specs.Suite.{OverView, SuiteState, cancelled_by, has_key, joined_by, state_of, with_finish, with_line, with_start}
 use Rattle.test_report_run.specs.declared.others.EventPlace.{EventPlace}
 use Rattle.test_report_run.specs.declared.suite.Suite.{Suite}
 
@@ -102,21 +102,30 @@ suite-over r r1 r2 e at s inside over line out left =
     ∙ sym (ap (λ (x : RunState). step (without_tests x s) (last_notes (cancelled_by x.cancel s) (tests_in x s))) rest
     ∙ ap (λ (x : SuiteState). step (without_tests old x) (last_notes (cancelled_by old.cancel x) (tests_in old x))) is)
 
--- a suite without a key ends early when another one starts
-pub no-key : (key : Option (String Global)) → is_some key ≡ false → is_some (text_view key) ≡ false
-no-key None is = is
-no-key (Some key) is = is
+pub key-seen : (key : Option (String Global)) (b : Bool) → is_some key ≡ b → is_some (text_view key) ≡ b
+key-seen None b is = is
+key-seen (Some key) b is = is
 
-pub again-tells : (r r1 : RunState) (key : Option (List ℕ)) (count : Option ℕ) (at : ℕ) (s : SuiteState) (t : Step) (old : List NoteView) → is_some key ≡ false
+-- a suite with a key is joined by another first line
+pub again-joins : (r : RunState) (key : Option (List ℕ)) (count : Option ℕ) (at : ℕ) → is_some key ≡ true
+    → step (with_suite_at r (Some at) (joined_by (suite_at r (Some at)) count)) [] ≡ started_again r key count at
+again-joins r key count at keyed =
+    let over : Step = ended_early nothing_known (step (record r { suites = remove r.suites at }) []) (suite_at r (Some at)) in
+    ap (λ (b : Bool). cond b (step (with_suite_at r (Some at) (joined_by (suite_at r (Some at)) count)) []) (step (opened over.run key count) over.notes))
+    (sym keyed)
+
+-- a suite without a key ends early when another one starts
+pub again-opens : (r r1 : RunState) (key : Option (List ℕ)) (count : Option ℕ) (at : ℕ) (s : SuiteState) (t : Step) (old : List NoteView) → is_some key ≡ false
     → s ≡ suite_at r (Some at) → r1 ≡ record r { suites = remove r.suites at } → t ≡ ended_early nothing_known (step r1 old) s
-    → t.notes ≡ old ++ (started_again r key count at).notes
-again-tells r r1 key count at s t old keyless suite left ended =
+    → step (opened t.run key count) t.notes ≡ step (started_again r key count at).run (old ++ (started_again r key count at).notes)
+again-opens r r1 key count at s t old keyless suite left ended =
     let rest : RunState = record r { suites = remove r.suites at } in
     let over : Step = ended_early nothing_known (step rest []) (suite_at r (Some at)) in
-    ap (λ (x : Step). x.notes) ended ∙ ap (λ (x : RunState). (ended_early nothing_known (step x old) s).notes) left
-    ∙ ap (λ (x : SuiteState). (ended_early nothing_known (step rest old) x).notes) suite
-    ∙ ap (λ (b : Bool). old ++ (cond b (step (with_suite_at r (Some at) (joined_by (suite_at r (Some at)) count)) [])
-    (step (opened over.run key count) over.notes)).notes) (sym keyless)
+    let opening : Step → Step = λ x. step (opened x.run key count) x.notes in
+    ap opening ended ∙ ap (λ (x : RunState). opening (ended_early nothing_known (step x old) s)) left
+    ∙ ap (λ (x : SuiteState). opening (ended_early nothing_known (step rest old) x)) suite
+    ∙ ap (λ (b : Bool). let again = cond b (step (with_suite_at r (Some at) (joined_by (suite_at r (Some at)) count)) [])
+    (step (opened over.run key count) over.notes) in step again.run (old ++ again.notes)) (sym keyless)
 
 -- a test that runs is taken out, and ends
 pub running-over : (r taken : RunState) (e : TestEndView) (place : Option (ℕ × ℕ)) (found : RunningView × ℕ)
@@ -167,3 +176,31 @@ slow-heard r marked run None number is slow heard = absurd (none-some number (sy
 slow-heard r marked run (Some p) number is slow heard =
     let same : number ≡ (running_at r.running p.0).suite = cc in
     rw (heard, slow, same) (heard-running r (with_slow r.running p.0) (place_of_number r (running_at r.running p.0).suite))
+
+-- a test starts
+others-stay : (r : RunState) (p : Option ℕ) (s : SuiteState)
+    → ((with_suite_at r p s).running ≡ r.running) × ((with_suite_at r p s).tests_started ≡ r.tests_started)
+others-stay r None s = (refl, refl)
+others-stay r (Some at) s = (refl, refl)
+
+pub test-starts : (r counted : RunState) (name : List ℕ) (number : Option ℕ) (tests : List RunningView) (started : ℕ) → counted ≡ start_counted r name
+    → number ≡ (suite_at r (suite_place r name)).number
+    → tests ≡ counted.running ++ record { name = name; suite = number; order = counted.tests_started; slow = false } ∷ []
+    → started ≡ counted.tests_started + 1 → record counted { running = tests; tests_started = started } ≡ test_starts r name
+test-starts r counted name number tests started counts at more next =
+    let stay = others-stay r (suite_place r name) (with_start (suite_at r (suite_place r name)) name) in
+    let runs : counted.running ≡ r.running = ap (λ (x : RunState). x.running) counts ∙ stay.0 in
+    let count : counted.tests_started ≡ r.tests_started = ap (λ (x : RunState). x.tests_started) counts ∙ stay.1 in
+    let all : tests ≡ r.running ++ record { name = name; suite = number; order = r.tests_started; slow = false } ∷ [] =
+    more ∙ ap (λ (xs : List RunningView). xs ++ record { name = name; suite = number; order = counted.tests_started; slow = false } ∷ []) runs
+    ∙ ap (λ (n : ℕ). r.running ++ record { name = name; suite = number; order = n; slow = false } ∷ []) count in
+    ap (λ (x : RunState). record x { running = tests; tests_started = started }) counts
+    ∙ ap (λ (xs : List RunningView). record (start_counted r name) { running = xs; tests_started = started }) all
+    ∙ ap (λ (n : ℕ). record (start_counted r name) {
+      running = r.running ++ record { name = name; suite = number; order = r.tests_started; slow = false } ∷ [];
+      tests_started = n;
+    }) (next ∙ ap (λ (n : ℕ). n + 1) count)
+    ∙ ap (λ (s : Option ℕ). record (start_counted r name) {
+      running = r.running ++ record { name = name; suite = s; order = r.tests_started; slow = false } ∷ [];
+      tests_started = r.tests_started + 1;
+    }) at

@@ -136,8 +136,8 @@ impl Suite {
             ++ spec.flaky_end (state_of self.now) (over_view test.now)
             (test_end_view [] ended.Ok details.entry)) }
     {
-        let copy = test.duplicate()?;
         let output = owned(alloc, details.stdout)?;
+        let copy = test.duplicate()?;
         let note = self.test_note(copy, TestOutcome::Passed { output })?;
         notes.push(Note::Flaky(note))?;
         Ok(())

@@ -58,8 +58,7 @@ impl Headings {
     {
         let name = String::from_str(alloc, name)?;
         let paths = self.names.entry(name)?.or_insert(Paths::new(alloc));
-        let path = owned(alloc, path)?;
-        paths.number(path)
+        paths.number(alloc, path)
     }
 }
 
@@ -74,13 +73,17 @@ impl Paths {
     }
 
     /// Adds a path if it is new, and returns its number. The first path has the number 1.
-    fn number(&mut self, path: Option<String>) -> Result<usize, AllocError>
-        ensures number { IfOk result (λ number. number ≡ number_of (numbers_view self.old) (text_view path)) }
-        ensures takes { OnOk result (numbers_view self.new ≡ with_path (numbers_view self.old) (text_view path)) }
+    fn number(&mut self, alloc: Global, path: Option<&str>) -> Result<usize, AllocError>
+        ensures number { IfOk result (λ number. number ≡ number_of (numbers_view self.old)
+            (option_map (λ path. path.now) path.entry)) }
+        ensures takes { OnOk result (numbers_view self.new ≡ with_path (numbers_view self.old)
+            (option_map (λ path. path.now) path.entry)) }
     {
+        let path = owned(alloc, path)?;
         let next = self.numbers.len() + 1;
-        let number = self.numbers.entry(path)?.or_insert(next);
-        Ok(*number)
+        let number = self.numbers.get(&path).copied().unwrap_or(next);
+        self.numbers.insert(path, number)?;
+        Ok(number)
     }
 }
 

@@ -236,10 +236,7 @@ impl Others {
     pub(crate) fn last_cause(&self) -> Result<Option<String>, AllocError>
         ensures { IfOk result (λ cause. text_view cause ≡ (others_view self.now).last_cause) }
     {
-        match &self.last_cause {
-            Some(cause) => Ok(Some(cause.clone()?)),
-            None => Ok(None),
-        }
+        self.last_cause.clone()
     }
 }
 

@@ -1,11 +1,12 @@
 //! A suite that is over.
 
-ghost use Rattle.std.specs.Prelude.{◌≡◌, ◌++◌, ◌∷◌, [], ◌+◌, ◌<◌, ◌^◌, false, is_some, IfOk, OnOk, map, true, length, if◌then◌else◌, ◌≤◌};
-ghost use Rattle.test_report_run_notes.specs.Note.{HasCrashed, HasNoEnd, crash_view, kind_view, note_view};
+ghost use Rattle.std.specs.Prelude.{◌≡◌, ◌++◌, ◌∷◌, [], ◌+◌, ◌<◌, ◌^◌, None, false, is_some, IfOk, OnOk, map, true, length, if◌then◌else◌, ◌≤◌};
+ghost use Rattle.test_report_run_notes.specs.declared.finish.Finish.TheVariants as finish;
+ghost use Rattle.test_report_run_notes.specs.Note.{Fails, HasCrashed, HasNoEnd, IsFlaky, IsSkipped, IsStopped, Passes, crash_view, kind_view, note_view, outcome_view, text_view};
 ghost use Rattle.test_report_run.specs.Others.{others_view};
 ghost use Rattle.test_report_run.specs.Over as spec;
 ghost use Rattle.test_report_run.specs.Running.{running_test_view, running_view};
-ghost use Rattle.test_report_run.specs.Suite.{flaky_view, over_view, state_of};
+ghost use Rattle.test_report_run.specs.Suite.{flaky_view, over_view, state_of, test_note};
 
 use crate::disagreements::push_disagreement;
 use crate::early::Ending;
@@ -37,26 +38,53 @@ pub(crate) struct Rest {
 }
 
 /// Returns a copy of how a test crashed, which shares the text of the prints.
-fn copy_of(alloc: Global, crash: &Crash) -> Result<Crash, AllocError>
+fn copy_of(crash: &Crash) -> Result<Crash, AllocError>
     ensures { IfOk result (λ copy. crash_view copy ≡ crash_view crash.now) }
 {
-    let mut last = Vec::new(alloc);
-    for line in &crash.last {
-        last.push(line.clone()?)?;
-    }
-    let cause = match &crash.cause {
-        Some(cause) => Some(cause.clone()?),
-        None => None,
-    };
     Ok(Crash {
         running: crash.running,
         has_key: crash.has_key,
         end: crash.end,
-        cause,
+        cause: crash.cause.clone()?,
         prints: crash.prints.clone()?,
-        last,
+        last: crash.last.clone()?,
         above: crash.above,
     })
+}
+
+/// Returns the outcome of a test without end that did not fail: it was skipped, or else it was stopped.
+fn outcome_of_left(is_skipped: bool) -> TestOutcome
+    ensures { outcome_view result ≡ (if is_skipped then IsSkipped None else IsStopped) }
+{
+    if is_skipped {
+        TestOutcome::Skipped { reason: None }
+    } else {
+        TestOutcome::Stopped
+    }
+}
+
+/// Returns how a flaky test with this output and this message counts, as failed or as passed, and its outcome.
+fn counted_flaky(
+    has_failed: bool,
+    stdout: Option<String>,
+    message: Option<String>,
+) -> (Finish, TestOutcome)
+    ensures finish { result.0 ≡ (if has_failed then finish.FlakyFailed else finish.Passed) }
+    ensures outcome { outcome_view result.1 ≡ (if has_failed
+        then Fails record { kind = IsFlaky; stdout = text_view stdout; message = text_view message; reason = None }
+        else Passes (text_view stdout)) }
+{
+    if has_failed {
+        let failure = Failure {
+            kind: FailureKind::Flaky,
+            stdout,
+            message,
+            reason: None,
+        };
+        (Finish::FlakyFailed, TestOutcome::Failed(failure))
+    } else {
+        (Finish::Passed, TestOutcome::Passed { output: stdout })
+    }
 }
 
 impl Suite {
@@ -92,7 +120,7 @@ impl Suite {
         let (crashed, stopped) = self.parted(alloc, how, left)?;
         let (crashes, left) = (crashed.len(), stopped.len());
         self.crash_left(alloc, others, how.end, crashed, notes)?;
-        self.stop_all(stopped, notes)?;
+        self.push_left(stopped, false, notes)?;
         self.release_flaky(alloc, false, notes)?;
         self.push_early_end(how.end, crashes, notes)?;
         let rest = Rest {
@@ -127,13 +155,19 @@ impl Suite {
         Ok((crashed, stopped))
     }
 
-    /// Adds that tests without end were stopped.
-    fn stop_all(&self, tests: Vec<RunningTest>, notes: &mut Vec<Note>) -> Result<(), AllocError>
+    /// Adds that tests without end were skipped if `are_skipped` is true, or else that they were stopped.
+    fn push_left(
+        &self,
+        tests: Vec<RunningTest>,
+        are_skipped: bool,
+        notes: &mut Vec<Note>,
+    ) -> Result<(), AllocError>
         ensures { OnOk result (map note_view notes.new.items ≡ map note_view notes.old.items
-            ++ map (spec.stopped_note (state_of self.now)) (running_view tests.items)) }
+            ++ map (λ t. test_note (state_of self.now) (spec.over_of (state_of self.now) t)
+            (if are_skipped then IsSkipped None else IsStopped)) (running_view tests.items)) }
     {
         for test in tests {
-            self.push_test(self.over(test), TestOutcome::Stopped, notes)?;
+            self.push_test(self.over(test), outcome_of_left(are_skipped), notes)?;
         }
         Ok(())
     }
@@ -185,7 +219,7 @@ impl Suite {
     {
         for test in tests {
             self.crashed = one_more(self.crashed)?;
-            let kind = FailureKind::Crashed(copy_of(alloc, crash)?);
+            let kind = FailureKind::Crashed(copy_of(crash)?);
             self.fail(test, kind, notes)?;
         }
         Ok(())
@@ -294,53 +328,18 @@ impl Suite {
         ensures tells { OnOk result (map note_view notes.new.items ≡ map note_view notes.old.items
             ++ spec.flaky_note (state_of self.old) has_failed (flaky_view flaky) ∷ []) }
     {
-        if has_failed {
-            self.fail_flaky(flaky, notes)
-        } else {
-            self.pass_flaky(flaky, notes)
-        }
-    }
-
-    /// Counts a flaky test as passed.
-    fn pass_flaky(&mut self, flaky: FlakyTest, notes: &mut Vec<Note>) -> Result<(), RunError>
-        ensures counts { OnOk result (state_of self.new ≡ record (state_of self.old) {
-          stats = spec.one_flaky false self.old.stats (flaky_view flaky);
-        }) }
-        ensures tells { OnOk result (map note_view notes.new.items ≡ map note_view notes.old.items
-            ++ spec.flaky_note (state_of self.old) false (flaky_view flaky) ∷ []) }
-    {
-        let output = flaky.stdout;
-        let test = OverTest {
-            cancel: self.cancel,
-            ..flaky.test
-        };
-        self.push_finished(Finish::Passed, test, TestOutcome::Passed { output }, notes)
-    }
-
-    /// Counts a flaky test as failed.
-    fn fail_flaky(&mut self, flaky: FlakyTest, notes: &mut Vec<Note>) -> Result<(), RunError>
-        ensures counts { OnOk result (state_of self.new ≡ record (state_of self.old) {
-          stats = spec.one_flaky true self.old.stats (flaky_view flaky);
-        }) }
-        ensures tells { OnOk result (map note_view notes.new.items ≡ map note_view notes.old.items
-            ++ spec.flaky_note (state_of self.old) true (flaky_view flaky) ∷ []) }
-    {
-        let failure = Failure {
-            kind: FailureKind::Flaky,
-            stdout: flaky.stdout,
-            message: flaky.message,
-            reason: None,
-        };
-        let test = OverTest {
-            cancel: self.cancel,
-            ..flaky.test
-        };
-        self.push_finished(
-            Finish::FlakyFailed,
+        let FlakyTest {
             test,
-            TestOutcome::Failed(failure),
-            notes,
-        )
+            order: _,
+            stdout,
+            message,
+        } = flaky;
+        let test = OverTest {
+            cancel: self.cancel,
+            ..test
+        };
+        let (finish, outcome) = counted_flaky(has_failed, stdout, message);
+        self.push_finished(finish, test, outcome, notes)
     }
 
     /// Ends the suite after its last line, and adds its notes. `left` are its running tests. The suite must not be used
@@ -357,7 +356,7 @@ impl Suite {
         let explained = self.explained(left.len())?;
         let mut skipped = left;
         let others = skipped.split_off(explained.skipped)?;
-        self.skip_all(skipped, notes)?;
+        self.push_left(skipped, true, notes)?;
         let left = self.fail_lost(explained.others_failed, others, notes)?;
         self.release_flaky(alloc, explained.flaky_failed, notes)?;
         self.push_last_line(notes)?;
@@ -395,38 +394,13 @@ impl Suite {
             ++ spec.failed_notes (state_of self.old) HasNoEnd (if have_failed then running_view tests.items else [])) }
         ensures left { IfOk result (λ left. left ≡ (if have_failed then 0 else length tests.items)) }
     {
-        if have_failed {
-            self.fail_all(tests, notes)?;
-            Ok(0)
-        } else {
-            Ok(tests.len())
+        if !have_failed {
+            return Ok(tests.len());
         }
-    }
-
-    /// Counts tests without end as failed.
-    fn fail_all(&mut self, tests: Vec<RunningTest>, notes: &mut Vec<Note>) -> Result<(), RunError>
-        ensures counts { OnOk result (state_of self.new ≡ record (state_of self.old) {
-          stats = spec.with_failed self.old.stats (running_view tests.items);
-        }) }
-        ensures tells { OnOk result (map note_view notes.new.items ≡ map note_view notes.old.items
-            ++ spec.failed_notes (state_of self.old) HasNoEnd (running_view tests.items)) }
-    {
         for test in tests {
             self.fail(test, FailureKind::WithoutEnd, notes)?;
         }
-        Ok(())
-    }
-
-    /// Adds that tests without end were skipped.
-    fn skip_all(&self, tests: Vec<RunningTest>, notes: &mut Vec<Note>) -> Result<(), AllocError>
-        ensures { OnOk result (map note_view notes.new.items ≡ map note_view notes.old.items
-            ++ map (spec.skipped_note (state_of self.now)) (running_view tests.items)) }
-    {
-        for test in tests {
-            let outcome = TestOutcome::Skipped { reason: None };
-            self.push_test(self.over(test), outcome, notes)?;
-        }
-        Ok(())
+        Ok(0)
     }
 
     /// Adds a disagreement if the last line contradicts the tests. Fails if memory runs out, or the number of passed
@@ -437,19 +411,19 @@ impl Suite {
     {
         let said = self.said.numbers()?;
         let (passed, failed) = (self.stats.passed, failed_count(&self.stats));
-        if !disagrees(said, passed, failed) {
-            return Ok(());
+        match self.name.shown()? {
+            Some(suite) if disagrees(said, passed, failed) => {
+                let disagreement = Disagreement::LastLine {
+                    suite,
+                    said,
+                    passed,
+                    failed,
+                };
+                push_disagreement(disagreement, notes)?;
+                Ok(())
+            }
+            _ => Ok(()),
         }
-        if let Some(suite) = self.name.shown()? {
-            let disagreement = Disagreement::LastLine {
-                suite,
-                said,
-                passed,
-                failed,
-            };
-            push_disagreement(disagreement, notes)?;
-        }
-        Ok(())
     }
 
     /// Adds the numbers of the suite, after how many of its tests did not run if that is not 0.
@@ -457,9 +431,8 @@ impl Suite {
         ensures { OnOk result (map note_view notes.new.items ≡ map note_view notes.old.items
             ++ spec.number_notes (state_of self.now) rest) }
     {
-        let finished = self.stats.finished_count as u128;
         let initial_run_count = self.initial_run_count(rest);
-        let not_run = initial_run_count - finished;
+        let not_run = initial_run_count - self.stats.finished_count as u128;
         if let (Some(suite), true) = (self.name.shown()?, not_run > 0) {
             notes.push(Note::NotRun(NotRun {
                 suite,

@@ -1,12 +1,13 @@
 //! A test run that is followed line by line.
 
-ghost use Rattle.std.specs.Prelude.{◌≡◌, ◌↔◌, ◌⊎◌, ◌++◌, ◌∷◌, [], IfOk, IsTrue, OnOk, if◌then◌else◌, map, option_map, option_to_list, string_bytes};
+ghost use Rattle.std.specs.Prelude.{◌≡◌, ◌↔◌, ◌⊎◌, ◌++◌, ◌∷◌, [], IfOk, IsTrue, OnOk, if◌then◌else◌, map, option_map, option_to_list, slice_get, string_bytes};
 ghost use Rattle.run_events_stats.specs.declared.outcome.run_outcome.RunOutcome.TheVariants as outcomes;
 ghost use Rattle.test_report_events.specs.Content.{events_of};
 ghost use Rattle.test_report_events.specs.Event.{event_view};
 ghost use Rattle.test_report_run_notes.specs.Note.{Disagrees, command_view, disagreement_view, is_new_disagreement, note_view, text_view};
 ghost use Rattle.test_report_run.specs.Events.{is_after_report, is_event};
 ghost use Rattle.test_report_run.specs.FileEnd as ends;
+ghost use Rattle.test_report_run.specs.Prints.{lines_of};
 ghost use Rattle.test_report_run.specs.Run as spec;
 ghost use Rattle.test_report_run.specs.Run.{run_settings, run_state};
 
@@ -24,6 +25,7 @@ use crate::headings::Headings;
 use crate::longest_end::LongestEnd;
 use crate::open_suites::OpenSuites;
 use crate::others::Others;
+use crate::run::command::says_more;
 use crate::run::lines::push_damaged;
 use crate::running::Running;
 use crate::status::exit_status;
@@ -316,10 +318,14 @@ impl TestRun {
         ensures takes { OnOk result (run_state self.new
             ≡ spec.run_after (run_state self.old) (option_to_list (option_map event_view event.entry))) }
     {
-        if let Some(event) = event {
-            notes.append(&mut self.on_event(alloc, event)?)?;
+        match event {
+            Some(event) => {
+                let mut told = self.on_event(alloc, event)?;
+                notes.append(&mut told)?;
+                Ok(())
+            }
+            None => Ok(()),
         }
-        Ok(())
     }
 
     /// Makes the last failure of cargo known, if no line after this event can explain it.
@@ -383,22 +389,12 @@ impl TestRun {
         ensures { OnOk result (map note_view notes.new.items ≡ map note_view notes.old.items
             ++ ends.no_event_notes (run_state self.now)) }
     {
-        let explained = self.causes > self.causes_at_file || self.command_says_more();
+        let explained = self.causes > self.causes_at_file || says_more(&self.command);
         if self.has_event || explained {
             return Ok(());
         }
-        let file = self.file_name()?;
+        let file = first_name(&self.file_names)?;
         push_disagreement(Disagreement::NoEvent { file }, notes)
-    }
-
-    /// Returns the name of the file, if the files of the run have names.
-    fn file_name(&self) -> Result<Option<String>, AllocError>
-        ensures { IfOk result (λ name. text_view name ≡ ends.file_name (run_state self.now)) }
-    {
-        match self.file_names.front() {
-            Some(name) => Ok(Some(name.clone()?)),
-            None => Ok(None),
-        }
     }
 
     /// Stores that a line is an event of a harness, and the number of causes if cargo reports a failure outside
@@ -406,22 +402,12 @@ impl TestRun {
     fn mark(&mut self, alloc: Global, event: Event<'_>)
         ensures { run_state self.new ≡ spec.marked (run_state self.old) (event_view event.entry) }
     {
-        self.forget_prints(alloc, event);
+        forget_prints(alloc, event, &mut self.recent);
         if is_event(event) {
             self.has_event = true;
         }
         if matches!(event, Event::CargoFailed { .. }) && self.suites.list.is_empty() {
             self.causes_at_cargo = self.causes;
-        }
-    }
-
-    /// Forgets the prints before an event after which they cannot say why cargo fails.
-    fn forget_prints(&mut self, alloc: Global, event: Event<'_>)
-        ensures { run_state self.new ≡ (if is_after_report (event_view event.entry)
-            then record (run_state self.old) { recent = [] } else run_state self.old) }
-    {
-        if is_after_report(event) {
-            self.recent = LongestEnd::new(alloc);
         }
     }
 
@@ -467,6 +453,25 @@ impl TestRun {
             self.causes = one_more(self.causes)?;
         }
         Ok(())
+    }
+}
+
+/// Forgets prints before an event after which they cannot say why cargo fails.
+fn forget_prints(alloc: Global, event: Event<'_>, prints: &mut LongestEnd)
+    ensures { lines_of prints.new ≡ (if is_after_report (event_view event.entry) then [] else lines_of prints.old) }
+{
+    if is_after_report(event) {
+        *prints = LongestEnd::new(alloc);
+    }
+}
+
+/// Returns the first of some names.
+fn first_name(names: &VecDeque<String>) -> Result<Option<String>, AllocError>
+    ensures { IfOk result (λ name. text_view name ≡ slice_get (map string_bytes names.now.items) 0) }
+{
+    match names.front() {
+        Some(name) => Ok(Some(name.clone()?)),
+        None => Ok(None),
     }
 }
 

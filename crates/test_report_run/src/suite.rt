@@ -238,6 +238,13 @@ impl Suite {
         Ok(())
     }
 
+    /// Returns the key of the suite.
+    pub(crate) fn key(&self) -> &Option<String>
+        ensures { result.now ≡ self.now.name.key }
+    {
+        &self.name.key
+    }
+
     /// Returns the text of this name.
     pub(crate) fn shown_text(&self) -> Option<&str>
         ensures { option_map (λ name. name.now) result ≡ suite_name (state_of self.now) }

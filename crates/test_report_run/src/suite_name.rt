@@ -63,8 +63,7 @@ impl SuiteName {
         ensures first_test { IfOk result (λ name. text_view name.first_test ≡ None) }
     {
         let number = Some(number);
-        let given = given_name(alloc, &key, &heading, None)?;
-        let shown = shown_name(alloc, number, given)?;
+        let shown = shown_name(alloc, number, given_name(&key, &heading, None))?;
         Ok(SuiteName {
             number,
             key,
@@ -86,12 +85,20 @@ impl SuiteName {
         if self.first_test.is_some() {
             return Ok(());
         }
-        let given = given_name(alloc, &self.key, &self.heading, Some(name))?;
-        let shown = shown_name(alloc, self.number, given)?;
+        let shown = self.shown_by(alloc, name)?;
         let first_test = String::from_str(alloc, name)?;
         self.first_test = Some(first_test);
         self.shown = shown;
         Ok(())
+    }
+
+    /// Returns the name that is shown if the first test of the suite has this name.
+    fn shown_by(&self, alloc: Global, first_test: &str) -> Result<Option<Rc<String>>, AllocError>
+        ensures { IfOk result (λ shown. option_map (λ n. string_bytes n.value) shown
+            ≡ name_by self.now.number (text_view self.now.key) (option_map (λ n. string_bytes n.value) self.now.heading) (Some first_test.now)) }
+    {
+        let given = given_name(&self.key, &self.heading, Some(first_test));
+        shown_name(alloc, self.number, given)
     }
 
     /// Returns the name, or `None` for the tests outside of a suite.
@@ -99,10 +106,7 @@ impl SuiteName {
         ensures { IfOk result (λ shown. option_map (λ n. string_bytes n.value) shown
             ≡ name_by self.now.number (text_view self.now.key) (option_map (λ n. string_bytes n.value) self.now.heading) (text_view self.now.first_test)) }
     {
-        match &self.shown {
-            Some(shown) => Ok(Some(shown.clone()?)),
-            None => Ok(None),
-        }
+        self.shown.clone()
     }
 
     /// Returns the text of the name, or `None` for the tests outside of a suite.
@@ -119,24 +123,18 @@ impl SuiteName {
 
 /// Returns the name that texts give a suite: its key, or else the heading, or else the part of its first
 /// test's name before the first `$`. No other suite shares it.
-fn given_name(
-    alloc: Global,
-    key: &Option<String>,
-    heading: &Option<Rc<String>>,
-    first_test: Option<&str>,
-) -> Result<Option<Rc<String>>, AllocError>
-    ensures { IfOk result (λ name. option_map (λ n. string_bytes n.value) name
-        ≡ given_by (text_view key.now) (option_map (λ n. string_bytes n.value) heading.now) (option_map (λ name. name.now) first_test.entry)) }
+fn given_name<'a>(
+    key: &'a Option<String>,
+    heading: &'a Option<Rc<String>>,
+    first_test: Option<&'a str>,
+) -> Option<&'a str>
+    ensures { option_map (λ name. name.now) result
+        ≡ given_by (text_view key.now) (option_map (λ n. string_bytes n.value) heading.now) (option_map (λ name. name.now) first_test.entry) }
 {
-    if let Some(key) = key {
-        return Ok(Some(shared(alloc, key.as_str())?));
-    }
-    if let Some(heading) = heading {
-        return Ok(Some(shared(alloc, heading.as_str())?));
-    }
-    match before_dollar(first_test) {
-        Some(name) => Ok(Some(shared(alloc, name)?)),
-        None => Ok(None),
+    match (key, heading) {
+        (Some(key), _) => Some(key.as_str()),
+        (None, Some(heading)) => Some(heading.as_str()),
+        (None, None) => before_dollar(first_test),
     }
 }
 
@@ -149,31 +147,22 @@ fn before_dollar(test: Option<&str>) -> Option<&str>
     Some(name)
 }
 
-/// Returns a copy of a text, which can be shared.
-fn shared(alloc: Global, text: &str) -> Result<Rc<String>, AllocError>
-    ensures { IfOk result (λ shared. string_bytes shared.value ≡ text.now) }
-{
-    Ok(Rc::new(alloc, String::from_str(alloc, text)?)?)
-}
-
 /// Returns the name of a suite: the given one, or else `suite` and its number. The tests outside of a suite
 /// have none.
 fn shown_name(
     alloc: Global,
     number: Option<usize>,
-    given: Option<Rc<String>>,
+    given: Option<&str>,
 ) -> Result<Option<Rc<String>>, AllocError>
     ensures { IfOk result (λ shown. option_map (λ n. string_bytes n.value) shown
-        ≡ name_of number (option_map (λ n. string_bytes n.value) given)) }
+        ≡ name_of number (option_map (λ name. name.now) given.entry)) }
 {
     let Some(number) = number else {
         return Ok(None);
     };
-    match given {
-        Some(given) => Ok(Some(given)),
-        None => {
-            let name = format!(in alloc; "suite {number}")?;
-            Ok(Some(Rc::new(alloc, name)?))
-        }
-    }
+    let name = match given {
+        Some(given) => String::from_str(alloc, given)?,
+        None => format!(in alloc; "suite {number}")?,
+    };
+    Ok(Some(Rc::new(alloc, name)?))
 }

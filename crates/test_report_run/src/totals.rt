@@ -37,13 +37,17 @@ impl Totals {
     pub(crate) fn add(&mut self, suite: &SuiteNote) -> Result<(), RunError>
         ensures adds { OnOk result (self.new.end ≡ with_suite self.old.end (suite_view suite.now)) }
     {
-        self.end.stats.try_add(&suite.stats)?;
+        let mut stats = self.end.stats;
+        stats.try_add(&suite.stats)?;
         let crashed = self.end.crashed.checked_add(suite.crashed);
-        self.end.crashed = crashed.ok_or(RunError::CounterFull)?;
-        self.end.skipped = plus(self.end.skipped, suite.skipped)?;
-        self.end.not_run = plus(self.end.not_run, suite.not_run)?;
-        self.end.time = time_sum(self.end.time, suite.time);
-        self.end.outcome = self.end.outcome.combine(outcome_of(suite)?);
+        self.end = RunEnd {
+            stats,
+            skipped: plus(self.end.skipped, suite.skipped)?,
+            not_run: plus(self.end.not_run, suite.not_run)?,
+            crashed: crashed.ok_or(RunError::CounterFull)?,
+            time: time_sum(self.end.time, suite.time),
+            outcome: self.end.outcome.combine(outcome_of(suite)?),
+        };
         Ok(())
     }
 

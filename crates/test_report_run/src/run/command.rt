@@ -2,7 +2,8 @@
 
 ghost use Rattle.std.specs.Prelude.{◌≡◌, ◌++◌, ◌||◌, OnOk, map, option_map};
 ghost use Rattle.test_report_events.specs.Event.{Cancels, CommandStarts};
-ghost use Rattle.test_report_run_notes.specs.Note.{CargoSays, Disagrees, cargo_view, command_view, ended_well, note_view, was_not_started};
+ghost use Rattle.test_report_run_notes.specs.Note as note;
+ghost use Rattle.test_report_run_notes.specs.Note.{CargoSays, Disagrees, cargo_view, command_view, note_view};
 ghost use Rattle.test_report_run.specs.FileEnd as ends;
 ghost use Rattle.test_report_run.specs.Run as spec;
 ghost use Rattle.test_report_run.specs.Run.{run_state};
@@ -56,31 +57,12 @@ impl TestRun {
             ++ (ends.held_told (run_state self.old)).notes) }
     {
         let held = std::mem::replace(&mut self.held, Vec::new(alloc));
-        if self.command_ended_well() {
+        if ended_well(&self.command) {
             self.causes = self.causes.saturating_sub(held.len());
             Ok(())
         } else {
             push_reports(held, self.has_event, notes)
         }
-    }
-
-    /// Returns true if the command ended with status 0.
-    fn command_ended_well(&self) -> bool
-        ensures { result ≡ ended_well (option_map command_view self.now.command) }
-    {
-        matches!(self.command, Some(CommandEnd::Status { code: 0 }))
-    }
-
-    /// Returns true if the end of the command says more than that no line is an event: it ended with status 0, or could
-    /// not be started.
-    pub(crate) fn command_says_more(&self) -> bool
-        ensures { result ≡ (ended_well (option_map command_view self.now.command)
-            || was_not_started (option_map command_view self.now.command)) }
-    {
-        matches!(
-            self.command,
-            Some(CommandEnd::Status { code: 0 } | CommandEnd::NotStarted { .. })
-        )
     }
 
     /// Adds a disagreement if the command failed and nothing says why, and counts it. Fails if memory runs out, or
@@ -100,6 +82,25 @@ impl TestRun {
             Ok(())
         }
     }
+}
+
+/// Returns true if a command ended with status 0.
+fn ended_well(command: &Option<CommandEnd>) -> bool
+    ensures { result ≡ note.ended_well (option_map command_view command.now) }
+{
+    matches!(command, Some(CommandEnd::Status { code: 0 }))
+}
+
+/// Returns true if the end of a command says more than that no line is an event: it ended with status 0, or could not be
+/// started.
+pub(crate) fn says_more(command: &Option<CommandEnd>) -> bool
+    ensures { result ≡ (note.ended_well (option_map command_view command.now)
+        || note.was_not_started (option_map command_view command.now)) }
+{
+    matches!(
+        command,
+        Some(CommandEnd::Status { code: 0 } | CommandEnd::NotStarted { .. })
+    )
 }
 
 /// Appends failures of cargo that disagree. `has_event` is true if a line of the file is an event.

@@ -2,17 +2,20 @@
 
 ghost use Rattle.std.specs.List.{starts_with};
 ghost use Rattle.std.specs.Map.{lookup};
-ghost use Rattle.std.specs.Prelude.{◌≡◌, ◌<◌, ◌++◌, ◌∷◌, [], IfOk, OnOk, map, nat_eq, option_and_then, option_map};
-ghost use Rattle.test_report_run_notes.specs.Note.{Disagrees, IsDamaged, note_view, text_view};
+ghost use Rattle.std.specs.Option.{unwrap_or};
+ghost use Rattle.std.specs.Prelude.{◌≡◌, ◌<◌, ◌++◌, ◌∷◌, ◌&&◌, [], IfOk, OnOk, codes, map, nat_eq, not, option_and_then, option_map, string_bytes};
+ghost use Rattle.test_report_run_notes.specs.Note.{Disagrees, IsDamaged, note_view};
 ghost use Rattle.test_report_run.specs.Prints.{cut};
 ghost use Rattle.test_report_run.specs.Run as spec;
 ghost use Rattle.test_report_run.specs.Run.{run_state};
+ghost use Rattle.test_report_run.specs.SuiteNames.{names_of};
 ghost use Rattle.std.specs.Str.{bytes_eq};
 
 use crate::cuts::shortened;
 use crate::disagreements::push_disagreement;
 use crate::error::{RunError, one_more};
 use crate::run::TestRun;
+use crate::suite_names::SuiteNames;
 use std::alloc::{AllocError, Global};
 use std::rc::Rc;
 use test_report_events::event::CargoFailure;
@@ -34,23 +37,8 @@ impl TestRun {
     {
         self.others.on_heading(alloc)?;
         let own = self.headings.take_heading(alloc, name, path)?;
-        let name = self.known_name(alloc, path)?.unwrap_or(own);
-        self.heading = Some(Rc::new(alloc, name)?);
+        self.heading = Some(shown_name(alloc, &self.names, path, own)?);
         Ok(())
-    }
-
-    /// Returns the name that is known of the suites of the binary with this path.
-    fn known_name(&self, alloc: Global, path: Option<&str>) -> Result<Option<String>, AllocError>
-        ensures { IfOk result (λ known. text_view known ≡ option_and_then
-            (λ p. lookup (bytes_eq p) (run_state self.now).names) (option_map (λ path. path.now) path.entry)) }
-    {
-        let Some(path) = path else {
-            return Ok(None);
-        };
-        match self.names.get(path) {
-            Some(name) => Ok(Some(String::from_str(alloc, name)?)),
-            None => Ok(None),
-        }
     }
 
     /// Takes a print. Fails if memory runs out, or the number of prints does not fit.
@@ -80,7 +68,7 @@ impl TestRun {
         let disagrees = self.disagrees(failure);
         self.others.on_failure(alloc)?;
         if disagrees {
-            let lacks_events = self.lacks_events(plain);
+            let lacks_events = lacks_events(self.has_event, self.lacked_events, plain);
             self.causes = one_more(self.causes)?;
             self.reported = Some(CargoReport {
                 line: String::from_str(alloc, plain)?,
@@ -91,14 +79,6 @@ impl TestRun {
             self.lacked_events = self.lacked_events || lacks_events;
         }
         Ok(())
-    }
-
-    /// Returns true if a failure of cargo is the first one in the file that says that tests failed, and no line of
-    /// the file was an event of a harness.
-    fn lacks_events(&self, plain: &str) -> bool
-        ensures { result ≡ spec.lacks_events (run_state self.now) plain.now }
-    {
-        !self.has_event && (!self.lacked_events && begins(plain.as_bytes(), TESTS_FAILED))
     }
 
     /// Returns true if no suite is open, and no failed test or earlier disagreement explains this failure of cargo
@@ -133,6 +113,39 @@ impl TestRun {
             push_disagreement(Disagreement::Cargo(report), notes)
         }
     }
+}
+
+/// Returns true if a line says that tests failed, no line of the file was an event of a harness, and no other failure of
+/// cargo in the file lacked events.
+fn lacks_events(has_event: bool, lacked_events: bool, line: &str) -> bool
+    ensures { result ≡ (not has_event && (not lacked_events && starts_with nat_eq line.now (codes "error: test failed"))) }
+{
+    !has_event && (!lacked_events && begins(line.as_bytes(), TESTS_FAILED))
+}
+
+/// Returns the name that a heading gives the suites after it: the known name of the binary with this path, or else `own`.
+fn shown_name(
+    alloc: Global,
+    names: &SuiteNames,
+    path: Option<&str>,
+    own: String,
+) -> Result<Rc<String>, AllocError>
+    ensures { IfOk result (λ shown. string_bytes shown.value ≡ unwrap_or (option_and_then
+        (λ p. lookup (bytes_eq p) (names_of names.now)) (option_map (λ path. path.now) path.entry)) (string_bytes own)) }
+{
+    let name = match known_name(names, path) {
+        Some(known) => String::from_str(alloc, known)?,
+        None => own,
+    };
+    Ok(Rc::new(alloc, name)?)
+}
+
+/// Returns the name that is known of the suites of the binary with this path.
+fn known_name<'a>(names: &'a SuiteNames, path: Option<&str>) -> Option<&'a str>
+    ensures { option_map (λ name. name.now) result ≡ option_and_then
+        (λ p. lookup (bytes_eq p) (names_of names.now)) (option_map (λ path. path.now) path.entry) }
+{
+    names.get(path?)
 }
 
 /// Returns true if a line begins with this text.

@@ -1,17 +1,22 @@
 //! The end of a program whose tests the lines of a run are of.
 
-ghost use Rattle.std.specs.Prelude.{◌≡◌, ◌++◌, ◌∷◌, [], IfOk, OnOk, map};
+ghost use Rattle.std.specs.Prelude.{◌≡◌, ◌++◌, ◌∷◌, [], IfOk, None, OnOk, Some, if◌then◌else◌, map};
+ghost use Rattle.std.specs.List.{list_any};
+ghost use Rattle.std.specs.Option.{option_map_or};
 ghost use Rattle.test_report_events.specs.Event.{AllEndEarly, ProgramDisagrees};
-ghost use Rattle.test_report_run_notes.specs.Note.{Disagrees, disagreement_view, fault_view, note_view};
-ghost use Rattle.test_report_run.specs.Over.{early_end_of, early_view};
+ghost use Rattle.test_report_run_notes.specs.Note.{Disagrees, WasCancelled, disagreement_view, fault_view, note_view};
+ghost use Rattle.test_report_run.specs.Over.{early_end_of, early_view, is_among};
 ghost use Rattle.test_report_run.specs.Run as spec;
 ghost use Rattle.test_report_run.specs.Run.{run_state};
+ghost use Rattle.test_report_run.specs.Running.{tests_of};
 
 use crate::disagreements::push_disagreement;
 use crate::early::{EarlyEnd, Ending};
 use crate::error::RunError;
 use crate::run::TestRun;
+use crate::running::Running;
 use crate::suite::Suite;
+use run_events_results::results::CancelReason;
 use std::alloc::Global;
 use test_report_run_notes::note::{Disagreement, Note, ProgramFault};
 
@@ -32,29 +37,10 @@ impl TestRun {
             ≡ spec.after (run_state self.old) (AllEndEarly (early_view end))) }
     {
         let mut notes = Vec::new(alloc);
-        let how = self.ending(end);
+        let how = ending(&self.running, end);
         self.end_suites(alloc, &how, &mut notes)?;
         self.learn(&notes)?;
         Ok(notes)
-    }
-
-    /// Returns which tests crash if all that is open ends so.
-    fn ending(&self, early: EarlyEnd) -> Ending
-        ensures { early_end_of result ≡ spec.early_end (run_state self.now) (early_view early) }
-    {
-        let EarlyEnd {
-            end,
-            overflowed,
-            panicked,
-        } = early;
-        let crashed = if self.running.has_one_of(&overflowed) {
-            Some(overflowed)
-        } else if self.running.has_one_of(&panicked) {
-            Some(panicked)
-        } else {
-            None
-        };
-        Ending { end, crashed }
     }
 
     /// Notes that the lines of programs disagree. Returns the note of that, which says that the run was cancelled if it
@@ -88,20 +74,10 @@ impl TestRun {
         ensures tells { OnOk result (map note_view notes.new.items ≡ map note_view notes.old.items
             ++ Disagrees (spec.unless_cancelled (run_state self.old) (disagreement_view disagreement)) ∷ []) }
     {
-        let disagreement = self.unless_cancelled(disagreement);
+        let disagreement = unless_cancelled(self.cancel, disagreement);
         self.learn_disagreement(&disagreement)?;
         push_disagreement(disagreement, notes)?;
         Ok(())
-    }
-
-    /// Returns a contradiction about the end of something, or that the run was cancelled.
-    fn unless_cancelled(&self, disagreement: Disagreement) -> Disagreement
-        ensures { disagreement_view result ≡ spec.unless_cancelled (run_state self.now) (disagreement_view disagreement) }
-    {
-        match self.cancel {
-            Some(reason) => Disagreement::Cancelled(reason),
-            None => disagreement,
-        }
     }
 
     /// Ends the open suites early, and then the tests outside of a suite. Fails if memory runs out, or a number of a
@@ -122,5 +98,39 @@ impl TestRun {
         }
         let outside = std::mem::replace(&mut self.outside, Suite::outside(alloc));
         self.end_early(alloc, how, outside, notes)
+    }
+}
+
+/// Returns which of the running tests crash if all that is open ends so.
+fn ending(running: &Running, early: EarlyEnd) -> Ending
+    ensures { early_end_of result ≡ record {
+      end = (early_view early).end;
+      crashed = if list_any (is_among (early_view early).overflowed) (tests_of running.now) then Some (early_view early).overflowed
+          else if list_any (is_among (early_view early).panicked) (tests_of running.now) then Some (early_view early).panicked
+          else None;
+    } }
+{
+    let EarlyEnd {
+        end,
+        overflowed,
+        panicked,
+    } = early;
+    let crashed = if running.has_one_of(&overflowed) {
+        Some(overflowed)
+    } else if running.has_one_of(&panicked) {
+        Some(panicked)
+    } else {
+        None
+    };
+    Ending { end, crashed }
+}
+
+/// Returns a contradiction about the end of something, or that the run was cancelled. `cancel` is the reason, if it was.
+fn unless_cancelled(cancel: Option<CancelReason>, disagreement: Disagreement) -> Disagreement
+    ensures { disagreement_view result ≡ option_map_or WasCancelled cancel (disagreement_view disagreement) }
+{
+    match cancel {
+        Some(reason) => Disagreement::Cancelled(reason),
+        None => disagreement,
     }
 }

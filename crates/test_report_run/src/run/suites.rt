@@ -33,7 +33,7 @@ impl TestRun {
             ++ (spec.suite_starts (run_state self.old) (option_map text_of_key key.entry) test_count).notes) }
     {
         let key = key_text(alloc, key)?;
-        let test_count = test_count.map(u128::from);
+        let test_count = wide(test_count);
         match self.suites.place_of_key(key.as_deref()) {
             Some(at) => self.start_again(alloc, key, test_count, at, notes),
             None => self.open(alloc, key, test_count),
@@ -125,14 +125,7 @@ impl TestRun {
         match self.suites.place_of_key(key.as_deref()) {
             Some(at) => self.end_at(alloc, end, at, notes),
             None => {
-                if counts_tests(end) {
-                    let failed_verdict = end.failed_verdict;
-                    let stray = Disagreement::StraySuiteEnd {
-                        key,
-                        failed_verdict,
-                    };
-                    push_disagreement(stray, notes)?;
-                }
+                push_stray_end(key, end, notes)?;
                 Ok(())
             }
         }
@@ -218,6 +211,37 @@ fn key_text(alloc: Global, key: Option<SuiteKey<'_>>) -> Result<Option<String>, 
     match key {
         Some(key) => Ok(Some(key.to_string(alloc)?)),
         None => Ok(None),
+    }
+}
+
+/// Returns a number of tests as a number to which others can be added.
+fn wide(count: Option<u64>) -> Option<u128>
+    ensures { result ≡ count }
+{
+    count.map(u128::from)
+}
+
+/// Adds a disagreement if the last line of a suite that is not open counts tests. `key` is the key in the line.
+fn push_stray_end(
+    key: Option<String>,
+    end: SuiteEnd<'_>,
+    notes: &mut Vec<Note>,
+) -> Result<(), AllocError>
+    requires { text_view key ≡ (suite_end_view end).key }
+    ensures { OnOk result (map note_view notes.new.items ≡ map note_view notes.old.items
+        ++ spec.stray_suite_notes (suite_end_view end.entry)) }
+{
+    if counts_tests(end) {
+        let failed_verdict = end.failed_verdict;
+        push_disagreement(
+            Disagreement::StraySuiteEnd {
+                key,
+                failed_verdict,
+            },
+            notes,
+        )
+    } else {
+        Ok(())
     }
 }
 

@@ -1,6 +1,7 @@
 //! The starts and the ends of tests.
 
-ghost use Rattle.std.specs.Prelude.{◌≡◌, ◌<◌, ◌+◌, ◌++◌, ◌∷◌, ◌||◌, [], IfOk, OnOk, map};
+ghost use Rattle.std.specs.Prelude.{◌≡◌, ◌<◌, ◌+◌, ◌++◌, ◌∷◌, ◌||◌, [], IfOk, OnOk, false, map, nat_le};
+ghost use Rattle.std.specs.Option.{option_map_or};
 ghost use Rattle.test_report_events.specs.Event.{TestEnds, test_end_view};
 ghost use Rattle.test_report_run_notes.specs.Note.{Disagrees, StrayEnds, note_view};
 ghost use Rattle.test_report_run.specs.Run as spec;
@@ -68,23 +69,6 @@ impl TestRun {
         match self.suites.place_of_number(number) {
             Some(at) => self.suites.list[at].last_event = place,
             None => self.outside.last_event = place,
-        }
-    }
-
-    /// Returns true if a running test that ends with this time is slow.
-    fn is_slow(&self, test: &RunningTest, time: Option<u64>) -> bool
-        ensures { result ≡ (test.now.slow || spec.is_long (run_state self.now) time) }
-    {
-        test.slow || self.is_long(time)
-    }
-
-    /// Returns true if a test with this time is slow.
-    fn is_long(&self, time: Option<u64>) -> bool
-        ensures { result ≡ spec.is_long (run_state self.now) time }
-    {
-        match time {
-            Some(time) => self.slow <= time,
-            None => false,
         }
     }
 
@@ -165,7 +149,7 @@ impl TestRun {
             ++ (spec.test_over (run_state self.old) (test_end_view [] end details.entry) (running_test_view test) attempts).notes) }
     {
         let order = test.order;
-        let slow = self.is_slow(&test, details.time);
+        let slow = is_slow(&test, details.time, self.slow);
         let place = self.suites.place_of_number(test.suite);
         let over = OverTest {
             name: test.name,
@@ -232,7 +216,7 @@ impl TestRun {
         ensures tells { OnOk result (map note_view notes.new.items ≡ map note_view notes.old.items
             ++ spec.stray_test (run_state self.old) (test_end_view name.now end details.entry)) }
     {
-        let slow = self.is_long(details.time);
+        let slow = is_long(details.time, self.slow);
         let test = OverTest {
             name: String::from_str(alloc, name)?,
             attempts: 1,
@@ -253,6 +237,23 @@ impl TestRun {
                 self.outside.on_stray_end(alloc, test, end, details, notes)
             }
         }
+    }
+}
+
+/// Returns true if a running test that ends with this time is slow. `least` is the least time of a slow test.
+fn is_slow(test: &RunningTest, time: Option<u64>, least: u64) -> bool
+    ensures { result ≡ (test.now.slow || option_map_or (nat_le least) time false) }
+{
+    test.slow || is_long(time, least)
+}
+
+/// Returns true if a test with this time is slow. `least` is the least time of a slow test.
+fn is_long(time: Option<u64>, least: u64) -> bool
+    ensures { result ≡ option_map_or (nat_le least) time false }
+{
+    match time {
+        Some(time) => least <= time,
+        None => false,
     }
 }
 

@@ -1,14 +1,14 @@
 //! What starts and ends running tests.
 
-ghost use Rattle.std.specs.Prelude.{◌≡◌, ◌≤◌, ◌<◌, ◌++◌, ◌∷◌, [], ◌+◌, ℕ, List, true, false, filter, not, IfNone, IfOk, IfSome, MatchOption, OnOk, option_map, slice_get};
+ghost use Rattle.std.specs.Prelude.{◌≡◌, ◌≤◌, ◌<◌, ◌++◌, ◌∷◌, [], ◌+◌, ℕ, List, None, true, false, filter, not, IfNone, IfOk, IfSome, MatchOption, OnOk, option_map, slice_get};
 ghost use Rattle.std.specs.BTreeMap.{get, is_at};
 ghost use Rattle.std.specs.List.{list_any, position, remove};
 ghost use Rattle.std.specs.Map.{remove_entry, set_value};
 ghost use Rattle.std.specs.Option.{option_map_or};
 ghost use Rattle.std.specs.Ordering.{nat_cmp};
-ghost use Rattle.test_report_run.specs.Orders.{is_in_suite};
+ghost use Rattle.test_report_run.specs.Orders.{is_in_suite, is_named};
 ghost use Rattle.test_report_run.specs.Over.{is_among, names_of};
-ghost use Rattle.test_report_run.specs.Running.{CountsAttempts, RunningView, ended_at, has_name, is_of, place_of_end, running_at, running_test_view, running_view, split_of, tests_of, with_slow};
+ghost use Rattle.test_report_run.specs.Running.{CountsAttempts, RunningView, ended_at, is_of, place_by_attempts, place_of_end, running_at, running_test_view, running_view, split_of, tests_of, with_slow};
 
 use crate::early::is_among;
 use crate::error::{RunError, one_more};
@@ -76,11 +76,8 @@ impl Running {
             (place_of_end (tests_of self.old) written.now) (tests_of self.old) }
         ensures started { self.new.started ≡ self.old.started }
     {
-        if let Some(test) = self.remove_named(written) {
-            return Some((test, 1));
-        }
-        let (name, attempts) = name_and_attempts(written)?;
-        let test = self.remove_named(name)?;
+        let (order, attempts) = self.order_of_end(written)?;
+        let test = self.remove(order)?;
         Some((test, attempts))
     }
 
@@ -93,11 +90,8 @@ impl Running {
             (place_of_end (tests_of self.old) written.now) (tests_of self.old) }
         ensures started { self.new.started ≡ self.old.started }
     {
-        if let Some(suite) = self.mark_named(written) {
-            return Some(suite);
-        }
-        let (name, _) = name_and_attempts(written)?;
-        self.mark_named(name)
+        let (order, _) = self.order_of_end(written)?;
+        self.mark(order)
     }
 
     /// Returns the number of tests that started.
@@ -141,28 +135,21 @@ impl Running {
         Ok(taken)
     }
 
-    /// Removes the first test with a name, and returns it.
-    fn remove_named(&mut self, name: &str) -> Option<RunningTest>
-        ensures found { option_map running_test_view result
-            ≡ option_map (running_at (tests_of self.old)) (position (has_name name.now) (tests_of self.old)) }
-        ensures left { tests_of self.new ≡ option_map_or (remove (tests_of self.old))
-            (position (has_name name.now) (tests_of self.old)) (tests_of self.old) }
-        ensures started { self.new.started ≡ self.old.started }
+    /// Returns the number of the test that ends with this written name, and the number of its attempts.
+    fn order_of_end(&self, written: &str) -> Option<(usize, usize)>
+        ensures named { IfSome result (λ found. (name : List ℕ) × (is_named self.now.tests name found.0 ≡ true)
+            × ((n : ℕ) → is_named self.now.tests name n ≡ true → found.0 ≤ n)
+            × (place_of_end (tests_of self.now) written.now ≡ place_by_attempts (tests_of self.now) (name, found.1))) }
+        ensures none { IfNone result (place_of_end (tests_of self.now) written.now ≡ None) }
     {
-        let order = self.names.first(name)?;
-        self.remove(order)
-    }
-
-    /// Marks the first test with a name as slow, and returns the number of its suite.
-    fn mark_named(&mut self, name: &str) -> Option<Option<usize>>
-        ensures suite { result ≡ option_map (λ at. (running_at (tests_of self.old) at).suite)
-            (position (has_name name.now) (tests_of self.old)) }
-        ensures marks { tests_of self.new ≡ option_map_or (with_slow (tests_of self.old))
-            (position (has_name name.now) (tests_of self.old)) (tests_of self.old) }
-        ensures started { self.new.started ≡ self.old.started }
-    {
-        let order = self.names.first(name)?;
-        self.mark(order)
+        match self.names.first(written) {
+            Some(order) => Some((order, 1)),
+            None => {
+                let (name, attempts) = name_and_attempts(written)?;
+                let order = self.names.first(name)?;
+                Some((order, attempts))
+            }
+        }
     }
 
     /// Marks the test with this number as slow, and returns the number of its suite.

@@ -86,8 +86,8 @@ impl Suite {
 
     /// Adds the note that a test passed after several attempts.
     fn push_flaky(&self, test: &OverTest, details: TestDetails<'_>, notes: &mut Vec<Note>) {
-        let copy = test.duplicate();
         let output = owned(details.stdout);
+        let copy = test.duplicate();
         let note = self.test_note(copy, TestOutcome::Passed { output });
         notes.push(Note::Flaky(note));
     }

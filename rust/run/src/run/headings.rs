@@ -37,7 +37,6 @@ impl Headings {
     fn number(&mut self, name: &str, path: Option<&str>) -> usize {
         let name = String::from(name);
         let paths = self.names.entry(name).or_insert(Paths::new());
-        let path = owned(path);
         paths.number(path)
     }
 }
@@ -51,10 +50,12 @@ impl Paths {
     }
 
     /// Adds a path if it is new, and returns its number. The first path has the number 1.
-    fn number(&mut self, path: Option<String>) -> usize {
+    fn number(&mut self, path: Option<&str>) -> usize {
+        let path = owned(path);
         let next = self.numbers.len() + 1;
-        let number = self.numbers.entry(path).or_insert(next);
-        *number
+        let number = self.numbers.get(&path).copied().unwrap_or(next);
+        self.numbers.insert(path, number);
+        number
     }
 }
 

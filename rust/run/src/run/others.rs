@@ -170,10 +170,7 @@ impl Others {
 
     /// Returns the plain text of the cause of the last failure.
     pub(crate) fn last_cause(&self) -> Option<String> {
-        match &self.last_cause {
-            Some(cause) => Some(cause.clone()),
-            None => None,
-        }
+        self.last_cause.clone()
     }
 }
 

@@ -31,22 +31,42 @@ pub(crate) struct Rest {
 
 /// Returns a copy of how a test crashed, which shares the text of the prints.
 fn copy_of(crash: &Crash) -> Crash {
-    let mut last = Vec::new();
-    for line in &crash.last {
-        last.push(line.clone());
-    }
-    let cause = match &crash.cause {
-        Some(cause) => Some(cause.clone()),
-        None => None,
-    };
     Crash {
         running: crash.running,
         has_key: crash.has_key,
         end: crash.end,
-        cause,
+        cause: crash.cause.clone(),
         prints: crash.prints.clone(),
-        last,
+        last: crash.last.clone(),
         above: crash.above,
+    }
+}
+
+/// Returns the outcome of a test without end that did not fail: it was skipped, or else it was stopped.
+fn outcome_of_left(is_skipped: bool) -> TestOutcome {
+    if is_skipped {
+        TestOutcome::Skipped { reason: None }
+    } else {
+        TestOutcome::Stopped
+    }
+}
+
+/// Returns how a flaky test with this output and this message counts, as failed or as passed, and its outcome.
+fn counted_flaky(
+    has_failed: bool,
+    stdout: Option<String>,
+    message: Option<String>,
+) -> (Finish, TestOutcome) {
+    if has_failed {
+        let failure = Failure {
+            kind: FailureKind::Flaky,
+            stdout,
+            message,
+            reason: None,
+        };
+        (Finish::FlakyFailed, TestOutcome::Failed(failure))
+    } else {
+        (Finish::Passed, TestOutcome::Passed { output: stdout })
     }
 }
 
@@ -76,7 +96,7 @@ impl Suite {
         let (crashed, stopped) = self.parted(how, left);
         let (crashes, left) = (crashed.len(), stopped.len());
         self.crash_left(others, how.end, crashed, notes)?;
-        self.stop_all(stopped, notes);
+        self.push_left(stopped, false, notes);
         self.release_flaky(false, notes)?;
         self.push_early_end(how.end, crashes, notes);
         let rest = Rest {
@@ -101,10 +121,10 @@ impl Suite {
         (crashed, stopped)
     }
 
-    /// Adds that tests without end were stopped.
-    fn stop_all(&self, tests: Vec<RunningTest>, notes: &mut Vec<Note>) {
+    /// Adds that tests without end were skipped if `are_skipped` is true, or else that they were stopped.
+    fn push_left(&self, tests: Vec<RunningTest>, are_skipped: bool, notes: &mut Vec<Note>) {
         for test in tests {
-            self.push_test(self.over(test), TestOutcome::Stopped, notes);
+            self.push_test(self.over(test), outcome_of_left(are_skipped), notes);
         }
     }
 
@@ -207,41 +227,18 @@ impl Suite {
         has_failed: bool,
         notes: &mut Vec<Note>,
     ) -> Result<(), RunError> {
-        if has_failed {
-            self.fail_flaky(flaky, notes)
-        } else {
-            self.pass_flaky(flaky, notes)
-        }
-    }
-
-    /// Counts a flaky test as passed.
-    fn pass_flaky(&mut self, flaky: FlakyTest, notes: &mut Vec<Note>) -> Result<(), RunError> {
-        let output = flaky.stdout;
-        let test = OverTest {
-            cancel: self.cancel,
-            ..flaky.test
-        };
-        self.push_finished(Finish::Passed, test, TestOutcome::Passed { output }, notes)
-    }
-
-    /// Counts a flaky test as failed.
-    fn fail_flaky(&mut self, flaky: FlakyTest, notes: &mut Vec<Note>) -> Result<(), RunError> {
-        let failure = Failure {
-            kind: FailureKind::Flaky,
-            stdout: flaky.stdout,
-            message: flaky.message,
-            reason: None,
-        };
-        let test = OverTest {
-            cancel: self.cancel,
-            ..flaky.test
-        };
-        self.push_finished(
-            Finish::FlakyFailed,
+        let FlakyTest {
             test,
-            TestOutcome::Failed(failure),
-            notes,
-        )
+            order: _,
+            stdout,
+            message,
+        } = flaky;
+        let test = OverTest {
+            cancel: self.cancel,
+            ..test
+        };
+        let (finish, outcome) = counted_flaky(has_failed, stdout, message);
+        self.push_finished(finish, test, outcome, notes)
     }
 
     /// Ends the suite after its last line, and adds its notes. `left` are its running tests. The suite must not be used
@@ -254,7 +251,7 @@ impl Suite {
         let explained = self.explained(left.len())?;
         let mut skipped = left;
         let others = skipped.split_off(explained.skipped);
-        self.skip_all(skipped, notes);
+        self.push_left(skipped, true, notes);
         let left = self.fail_lost(explained.others_failed, others, notes)?;
         self.release_flaky(explained.flaky_failed, notes)?;
         self.push_last_line(notes)?;
@@ -282,28 +279,13 @@ impl Suite {
         tests: Vec<RunningTest>,
         notes: &mut Vec<Note>,
     ) -> Result<usize, RunError> {
-        if have_failed {
-            self.fail_all(tests, notes)?;
-            Ok(0)
-        } else {
-            Ok(tests.len())
+        if !have_failed {
+            return Ok(tests.len());
         }
-    }
-
-    /// Counts tests without end as failed.
-    fn fail_all(&mut self, tests: Vec<RunningTest>, notes: &mut Vec<Note>) -> Result<(), RunError> {
         for test in tests {
             self.fail(test, FailureKind::WithoutEnd, notes)?;
         }
-        Ok(())
-    }
-
-    /// Adds that tests without end were skipped.
-    fn skip_all(&self, tests: Vec<RunningTest>, notes: &mut Vec<Note>) {
-        for test in tests {
-            let outcome = TestOutcome::Skipped { reason: None };
-            self.push_test(self.over(test), outcome, notes);
-        }
+        Ok(0)
     }
 
     /// Adds a disagreement if the last line contradicts the tests. Fails if memory runs out, or the number of passed
@@ -311,26 +293,25 @@ impl Suite {
     fn push_last_line(&self, notes: &mut Vec<Note>) -> Result<(), RunError> {
         let said = self.said.numbers()?;
         let (passed, failed) = (self.stats.passed, failed_count(&self.stats));
-        if !disagrees(said, passed, failed) {
-            return Ok(());
+        match self.name.shown() {
+            Some(suite) if disagrees(said, passed, failed) => {
+                let disagreement = Disagreement::LastLine {
+                    suite,
+                    said,
+                    passed,
+                    failed,
+                };
+                push_disagreement(disagreement, notes);
+                Ok(())
+            }
+            _ => Ok(()),
         }
-        if let Some(suite) = self.name.shown() {
-            let disagreement = Disagreement::LastLine {
-                suite,
-                said,
-                passed,
-                failed,
-            };
-            push_disagreement(disagreement, notes);
-        }
-        Ok(())
     }
 
     /// Adds the numbers of the suite, after how many of its tests did not run if that is not 0.
     fn push_numbers(&self, rest: Rest, notes: &mut Vec<Note>) {
-        let finished = self.stats.finished_count as u128;
         let initial_run_count = self.initial_run_count(rest);
-        let not_run = initial_run_count - finished;
+        let not_run = initial_run_count - self.stats.finished_count as u128;
         if let (Some(suite), true) = (self.name.shown(), not_run > 0) {
             notes.push(Note::NotRun(NotRun {
                 suite,

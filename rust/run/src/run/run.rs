@@ -18,6 +18,7 @@ use crate::run::headings::Headings;
 use crate::run::longest_end::LongestEnd;
 use crate::run::open_suites::OpenSuites;
 use crate::run::others::Others;
+use crate::run::run::command::says_more;
 use crate::run::run::lines::push_damaged;
 use crate::run::running::Running;
 use crate::run::status::exit_status;
@@ -232,10 +233,14 @@ impl TestRun {
 
     /// Takes an event if there is one, and appends its notes.
     fn take(&mut self, event: Option<Event<'_>>, notes: &mut Vec<Note>) -> Result<(), RunError> {
-        if let Some(event) = event {
-            notes.append(&mut self.on_event(event)?);
+        match event {
+            Some(event) => {
+                let mut told = self.on_event(event)?;
+                notes.append(&mut told);
+                Ok(())
+            }
+            None => Ok(()),
         }
-        Ok(())
     }
 
     /// Makes the last failure of cargo known, if no line after this event can explain it.
@@ -277,38 +282,23 @@ impl TestRun {
     /// Adds a disagreement if no line of the file is an event of a harness and nothing failed or disagreed in it,
     /// unless its command ended with status 0 or was not started.
     fn push_no_event(&self, notes: &mut Vec<Note>) {
-        let explained = self.causes > self.causes_at_file || self.command_says_more();
+        let explained = self.causes > self.causes_at_file || says_more(&self.command);
         if self.has_event || explained {
             return;
         }
-        let file = self.file_name();
+        let file = first_name(&self.file_names);
         push_disagreement(Disagreement::NoEvent { file }, notes);
-    }
-
-    /// Returns the name of the file, if the files of the run have names.
-    fn file_name(&self) -> Option<String> {
-        match self.file_names.front() {
-            Some(name) => Some(name.clone()),
-            None => None,
-        }
     }
 
     /// Stores that a line is an event of a harness, and the number of causes if cargo reports a failure outside
     /// of a suite.
     fn mark(&mut self, event: Event<'_>) {
-        self.forget_prints(event);
+        forget_prints(event, &mut self.recent);
         if is_event(event) {
             self.has_event = true;
         }
         if matches!(event, Event::CargoFailed { .. }) && self.suites.list.is_empty() {
             self.causes_at_cargo = self.causes;
-        }
-    }
-
-    /// Forgets the prints before an event after which they cannot say why cargo fails.
-    fn forget_prints(&mut self, event: Event<'_>) {
-        if is_after_report(event) {
-            self.recent = LongestEnd::new();
         }
     }
 
@@ -345,6 +335,21 @@ impl TestRun {
             self.causes = one_more(self.causes)?;
         }
         Ok(())
+    }
+}
+
+/// Forgets prints before an event after which they cannot say why cargo fails.
+fn forget_prints(event: Event<'_>, prints: &mut LongestEnd) {
+    if is_after_report(event) {
+        *prints = LongestEnd::new();
+    }
+}
+
+/// Returns the first of some names.
+fn first_name(names: &VecDeque<String>) -> Option<String> {
+    match names.front() {
+        Some(name) => Some(name.clone()),
+        None => None,
     }
 }
 

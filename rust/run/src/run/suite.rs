@@ -174,6 +174,11 @@ impl Suite {
         Ok(())
     }
 
+    /// Returns the key of the suite.
+    pub(crate) fn key(&self) -> &Option<String> {
+        &self.name.key
+    }
+
     /// Returns the text of this name.
     pub(crate) fn shown_text(&self) -> Option<&str> {
         self.name.shown_text()

@@ -43,8 +43,7 @@ impl SuiteName {
         heading: Option<Rc<String>>,
     ) -> SuiteName {
         let number = Some(number);
-        let given = given_name(&key, &heading, None);
-        let shown = shown_name(number, given);
+        let shown = shown_name(number, given_name(&key, &heading, None));
         SuiteName {
             number,
             key,
@@ -59,19 +58,21 @@ impl SuiteName {
         if self.first_test.is_some() {
             return;
         }
-        let given = given_name(&self.key, &self.heading, Some(name));
-        let shown = shown_name(self.number, given);
+        let shown = self.shown_by(name);
         let first_test = String::from(name);
         self.first_test = Some(first_test);
         self.shown = shown;
     }
 
+    /// Returns the name that is shown if the first test of the suite has this name.
+    fn shown_by(&self, first_test: &str) -> Option<Rc<String>> {
+        let given = given_name(&self.key, &self.heading, Some(first_test));
+        shown_name(self.number, given)
+    }
+
     /// Returns the name, or `None` for the tests outside of a suite.
     pub(crate) fn shown(&self) -> Option<Rc<String>> {
-        match &self.shown {
-            Some(shown) => Some(shown.clone()),
-            None => None,
-        }
+        self.shown.clone()
     }
 
     /// Returns the text of the name, or `None` for the tests outside of a suite.
@@ -85,20 +86,15 @@ impl SuiteName {
 
 /// Returns the name that texts give a suite: its key, or else the heading, or else the part of its first
 /// test's name before the first `$`. No other suite shares it.
-fn given_name(
-    key: &Option<String>,
-    heading: &Option<Rc<String>>,
-    first_test: Option<&str>,
-) -> Option<Rc<String>> {
-    if let Some(key) = key {
-        return Some(shared(key.as_str()));
-    }
-    if let Some(heading) = heading {
-        return Some(shared(heading.as_str()));
-    }
-    match before_dollar(first_test) {
-        Some(name) => Some(shared(name)),
-        None => None,
+fn given_name<'a>(
+    key: &'a Option<String>,
+    heading: &'a Option<Rc<String>>,
+    first_test: Option<&'a str>,
+) -> Option<&'a str> {
+    match (key, heading) {
+        (Some(key), _) => Some(key.as_str()),
+        (None, Some(heading)) => Some(heading.as_str()),
+        (None, None) => before_dollar(first_test),
     }
 }
 
@@ -108,22 +104,15 @@ fn before_dollar(test: Option<&str>) -> Option<&str> {
     Some(name)
 }
 
-/// Returns a copy of a text, which can be shared.
-fn shared(text: &str) -> Rc<String> {
-    Rc::new(String::from(text))
-}
-
 /// Returns the name of a suite: the given one, or else `suite` and its number. The tests outside of a suite
 /// have none.
-fn shown_name(number: Option<usize>, given: Option<Rc<String>>) -> Option<Rc<String>> {
+fn shown_name(number: Option<usize>, given: Option<&str>) -> Option<Rc<String>> {
     let Some(number) = number else {
         return None;
     };
-    match given {
-        Some(given) => Some(given),
-        None => {
-            let name = format!("suite {number}");
-            Some(Rc::new(name))
-        }
-    }
+    let name = match given {
+        Some(given) => String::from(given),
+        None => format!("suite {number}"),
+    };
+    Some(Rc::new(name))
 }

@@ -34,25 +34,11 @@ impl TestRun {
     /// prints.
     pub(crate) fn tell_held(&mut self, notes: &mut Vec<Note>) {
         let held = std::mem::replace(&mut self.held, Vec::new());
-        if self.command_ended_well() {
+        if ended_well(&self.command) {
             self.causes = self.causes.saturating_sub(held.len());
         } else {
             push_reports(held, self.has_event, notes);
         }
-    }
-
-    /// Returns true if the command ended with status 0.
-    fn command_ended_well(&self) -> bool {
-        matches!(self.command, Some(CommandEnd::Status { code: 0 }))
-    }
-
-    /// Returns true if the end of the command says more than that no line is an event: it ended with status 0, or could
-    /// not be started.
-    pub(crate) fn command_says_more(&self) -> bool {
-        matches!(
-            self.command,
-            Some(CommandEnd::Status { code: 0 } | CommandEnd::NotStarted { .. })
-        )
     }
 
     /// Adds a disagreement if the command failed and nothing says why, and counts it. Fails if memory runs out, or
@@ -67,6 +53,20 @@ impl TestRun {
             Ok(())
         }
     }
+}
+
+/// Returns true if a command ended with status 0.
+fn ended_well(command: &Option<CommandEnd>) -> bool {
+    matches!(command, Some(CommandEnd::Status { code: 0 }))
+}
+
+/// Returns true if the end of a command says more than that no line is an event: it ended with status 0, or could not be
+/// started.
+pub(crate) fn says_more(command: &Option<CommandEnd>) -> bool {
+    matches!(
+        command,
+        Some(CommandEnd::Status { code: 0 } | CommandEnd::NotStarted { .. })
+    )
 }
 
 /// Appends failures of cargo that disagree. `has_event` is true if a line of the file is an event.

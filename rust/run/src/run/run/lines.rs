@@ -7,6 +7,7 @@ use crate::run::cuts::shortened;
 use crate::run::disagreements::push_disagreement;
 use crate::run::error::{RunError, one_more};
 use crate::run::run::TestRun;
+use crate::run::suite_names::SuiteNames;
 use std::rc::Rc;
 
 /// The front of the line in which cargo says that tests failed.
@@ -17,20 +18,8 @@ impl TestRun {
     pub(crate) fn on_heading(&mut self, name: &str, path: Option<&str>) -> Result<(), RunError> {
         self.others.on_heading()?;
         let own = self.headings.take_heading(name, path);
-        let name = self.known_name(path).unwrap_or(own);
-        self.heading = Some(Rc::new(name));
+        self.heading = Some(shown_name(&self.names, path, own));
         Ok(())
-    }
-
-    /// Returns the name that is known of the suites of the binary with this path.
-    fn known_name(&self, path: Option<&str>) -> Option<String> {
-        let Some(path) = path else {
-            return None;
-        };
-        match self.names.get(path) {
-            Some(name) => Some(String::from(name)),
-            None => None,
-        }
     }
 
     /// Takes a print. Fails if memory runs out, or the number of prints does not fit.
@@ -50,7 +39,7 @@ impl TestRun {
         let disagrees = self.disagrees(failure);
         self.others.on_failure();
         if disagrees {
-            let lacks_events = self.lacks_events(plain);
+            let lacks_events = lacks_events(self.has_event, self.lacked_events, plain);
             self.causes = one_more(self.causes)?;
             self.reported = Some(CargoReport {
                 line: String::from(plain),
@@ -61,12 +50,6 @@ impl TestRun {
             self.lacked_events = self.lacked_events || lacks_events;
         }
         Ok(())
-    }
-
-    /// Returns true if a failure of cargo is the first one in the file that says that tests failed, and no line of
-    /// the file was an event of a harness.
-    fn lacks_events(&self, plain: &str) -> bool {
-        !self.has_event && (!self.lacked_events && begins(plain.as_bytes(), TESTS_FAILED))
     }
 
     /// Returns true if no suite is open, and no failed test or earlier disagreement explains this failure of cargo
@@ -94,6 +77,26 @@ impl TestRun {
             push_disagreement(Disagreement::Cargo(report), notes);
         }
     }
+}
+
+/// Returns true if a line says that tests failed, no line of the file was an event of a harness, and no other failure of
+/// cargo in the file lacked events.
+fn lacks_events(has_event: bool, lacked_events: bool, line: &str) -> bool {
+    !has_event && (!lacked_events && begins(line.as_bytes(), TESTS_FAILED))
+}
+
+/// Returns the name that a heading gives the suites after it: the known name of the binary with this path, or else `own`.
+fn shown_name(names: &SuiteNames, path: Option<&str>, own: String) -> Rc<String> {
+    let name = match known_name(names, path) {
+        Some(known) => String::from(known),
+        None => own,
+    };
+    Rc::new(name)
+}
+
+/// Returns the name that is known of the suites of the binary with this path.
+fn known_name<'a>(names: &'a SuiteNames, path: Option<&str>) -> Option<&'a str> {
+    names.get(path?)
 }
 
 /// Returns true if a line begins with this text.

@@ -6,7 +6,9 @@ use crate::run::disagreements::push_disagreement;
 use crate::run::early::{EarlyEnd, Ending};
 use crate::run::error::RunError;
 use crate::run::run::TestRun;
+use crate::run::running::Running;
 use crate::run::suite::Suite;
+use deodarsieve::CancelReason;
 
 impl TestRun {
     /// Ends all open suites early, and the tests outside of a suite, as at the end of the program whose tests run. `end` is
@@ -16,27 +18,10 @@ impl TestRun {
     /// Fails if a number of the run does not fit its counter. After an error the run must not be used.
     pub fn on_all_ended_early(&mut self, end: EarlyEnd) -> Result<Vec<Note>, RunError> {
         let mut notes = Vec::new();
-        let how = self.ending(end);
+        let how = ending(&self.running, end);
         self.end_suites(&how, &mut notes)?;
         self.learn(&notes)?;
         Ok(notes)
-    }
-
-    /// Returns which tests crash if all that is open ends so.
-    fn ending(&self, early: EarlyEnd) -> Ending {
-        let EarlyEnd {
-            end,
-            overflowed,
-            panicked,
-        } = early;
-        let crashed = if self.running.has_one_of(&overflowed) {
-            Some(overflowed)
-        } else if self.running.has_one_of(&panicked) {
-            Some(panicked)
-        } else {
-            None
-        };
-        Ending { end, crashed }
     }
 
     /// Notes that the lines of programs disagree. Returns the note of that, which says that the run was cancelled if it
@@ -56,18 +41,10 @@ impl TestRun {
         disagreement: Disagreement,
         notes: &mut Vec<Note>,
     ) -> Result<(), RunError> {
-        let disagreement = self.unless_cancelled(disagreement);
+        let disagreement = unless_cancelled(self.cancel, disagreement);
         self.learn_disagreement(&disagreement)?;
         push_disagreement(disagreement, notes);
         Ok(())
-    }
-
-    /// Returns a contradiction about the end of something, or that the run was cancelled.
-    fn unless_cancelled(&self, disagreement: Disagreement) -> Disagreement {
-        match self.cancel {
-            Some(reason) => Disagreement::Cancelled(reason),
-            None => disagreement,
-        }
     }
 
     /// Ends the open suites early, and then the tests outside of a suite. Fails if memory runs out, or a number of a
@@ -82,5 +59,30 @@ impl TestRun {
         }
         let outside = std::mem::replace(&mut self.outside, Suite::outside());
         self.end_early(how, outside, notes)
+    }
+}
+
+/// Returns which of the running tests crash if all that is open ends so.
+fn ending(running: &Running, early: EarlyEnd) -> Ending {
+    let EarlyEnd {
+        end,
+        overflowed,
+        panicked,
+    } = early;
+    let crashed = if running.has_one_of(&overflowed) {
+        Some(overflowed)
+    } else if running.has_one_of(&panicked) {
+        Some(panicked)
+    } else {
+        None
+    };
+    Ending { end, crashed }
+}
+
+/// Returns a contradiction about the end of something, or that the run was cancelled. `cancel` is the reason, if it was.
+fn unless_cancelled(cancel: Option<CancelReason>, disagreement: Disagreement) -> Disagreement {
+    match cancel {
+        Some(reason) => Disagreement::Cancelled(reason),
+        None => disagreement,
     }
 }

@@ -18,7 +18,7 @@ impl TestRun {
         notes: &mut Vec<Note>,
     ) -> Result<(), RunError> {
         let key = key_text(key);
-        let test_count = test_count.map(u128::from);
+        let test_count = wide(test_count);
         match self.suites.place_of_key(key.as_deref()) {
             Some(at) => self.start_again(key, test_count, at, notes),
             None => self.open(key, test_count),
@@ -76,14 +76,7 @@ impl TestRun {
         match self.suites.place_of_key(key.as_deref()) {
             Some(at) => self.end_at(end, at, notes),
             None => {
-                if counts_tests(end) {
-                    let failed_verdict = end.failed_verdict;
-                    let stray = Disagreement::StraySuiteEnd {
-                        key,
-                        failed_verdict,
-                    };
-                    push_disagreement(stray, notes);
-                }
+                push_stray_end(key, end, notes);
                 Ok(())
             }
         }
@@ -138,6 +131,25 @@ fn key_text(key: Option<SuiteKey<'_>>) -> Option<String> {
     match key {
         Some(key) => Some(key.to_string()),
         None => None,
+    }
+}
+
+/// Returns a number of tests as a number to which others can be added.
+fn wide(count: Option<u64>) -> Option<u128> {
+    count.map(u128::from)
+}
+
+/// Adds a disagreement if the last line of a suite that is not open counts tests. `key` is the key in the line.
+fn push_stray_end(key: Option<String>, end: SuiteEnd<'_>, notes: &mut Vec<Note>) {
+    if counts_tests(end) {
+        let failed_verdict = end.failed_verdict;
+        push_disagreement(
+            Disagreement::StraySuiteEnd {
+                key,
+                failed_verdict,
+            },
+            notes,
+        );
     }
 }
 

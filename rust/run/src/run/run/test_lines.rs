@@ -53,19 +53,6 @@ impl TestRun {
         }
     }
 
-    /// Returns true if a running test that ends with this time is slow.
-    fn is_slow(&self, test: &RunningTest, time: Option<u64>) -> bool {
-        test.slow || self.is_long(time)
-    }
-
-    /// Returns true if a test with this time is slow.
-    fn is_long(&self, time: Option<u64>) -> bool {
-        match time {
-            Some(time) => self.slow <= time,
-            None => false,
-        }
-    }
-
     /// Returns the position of the open suite that a starting test with this name belongs to, or `None` if no
     /// suite is open.
     fn suite_of(&self, name: &str) -> Option<usize> {
@@ -123,7 +110,7 @@ impl TestRun {
         notes: &mut Vec<Note>,
     ) -> Result<(), RunError> {
         let order = test.order;
-        let slow = self.is_slow(&test, details.time);
+        let slow = is_slow(&test, details.time, self.slow);
         let place = self.suites.place_of_number(test.suite);
         let over = OverTest {
             name: test.name,
@@ -178,7 +165,7 @@ impl TestRun {
         details: TestDetails<'_>,
         notes: &mut Vec<Note>,
     ) -> Result<(), RunError> {
-        let slow = self.is_long(details.time);
+        let slow = is_long(details.time, self.slow);
         let test = OverTest {
             name: String::from(name),
             attempts: 1,
@@ -199,6 +186,19 @@ impl TestRun {
                 self.outside.on_stray_end(test, end, details, notes)
             }
         }
+    }
+}
+
+/// Returns true if a running test that ends with this time is slow. `least` is the least time of a slow test.
+fn is_slow(test: &RunningTest, time: Option<u64>, least: u64) -> bool {
+    test.slow || is_long(time, least)
+}
+
+/// Returns true if a test with this time is slow. `least` is the least time of a slow test.
+fn is_long(time: Option<u64>, least: u64) -> bool {
+    match time {
+        Some(time) => least <= time,
+        None => false,
     }
 }
 

@@ -53,22 +53,16 @@ impl Running {
     /// Removes the test that ends, and returns it with the number of its attempts. `written` is the name in
     /// the line of its end. Returns `None` if no such test is running.
     pub fn end(&mut self, written: &str) -> Option<(RunningTest, usize)> {
-        if let Some(test) = self.remove_named(written) {
-            return Some((test, 1));
-        }
-        let (name, attempts) = name_and_attempts(written)?;
-        let test = self.remove_named(name)?;
+        let (order, attempts) = self.order_of_end(written)?;
+        let test = self.remove(order)?;
         Some((test, attempts))
     }
 
     /// Marks the running test that a line calls slow, and returns the number of its suite, which is `None` outside of
     /// a suite. `written` is the name in the line. Returns `None` if no such test is running.
     pub(crate) fn mark_slow(&mut self, written: &str) -> Option<Option<usize>> {
-        if let Some(suite) = self.mark_named(written) {
-            return Some(suite);
-        }
-        let (name, _) = name_and_attempts(written)?;
-        self.mark_named(name)
+        let (order, _) = self.order_of_end(written)?;
+        self.mark(order)
     }
 
     /// Returns the number of tests that started.
@@ -96,16 +90,16 @@ impl Running {
         taken
     }
 
-    /// Removes the first test with a name, and returns it.
-    fn remove_named(&mut self, name: &str) -> Option<RunningTest> {
-        let order = self.names.first(name)?;
-        self.remove(order)
-    }
-
-    /// Marks the first test with a name as slow, and returns the number of its suite.
-    fn mark_named(&mut self, name: &str) -> Option<Option<usize>> {
-        let order = self.names.first(name)?;
-        self.mark(order)
+    /// Returns the number of the test that ends with this written name, and the number of its attempts.
+    fn order_of_end(&self, written: &str) -> Option<(usize, usize)> {
+        match self.names.first(written) {
+            Some(order) => Some((order, 1)),
+            None => {
+                let (name, attempts) = name_and_attempts(written)?;
+                let order = self.names.first(name)?;
+                Some((order, attempts))
+            }
+        }
     }
 
     /// Marks the test with this number as slow, and returns the number of its suite.

@@ -4,7 +4,7 @@ use Rattle.test_report_run_notes.specs.Note.{HasNoEnd, note_view}
 use Rattle.test_report_run.specs.Over.{failed_notes, with_failed}
 use Rattle.test_report_run.specs.Running.{running_view}
 use Rattle.test_report_run.specs.Suite.{state_of}
-use Rattle.test_report_run.proofs.suite.Suite.fail_all.Given as goal
+use Rattle.test_report_run.proofs.suite.Suite.fail_lost.Given as goal
 
 abbrev pub invariant-loop-test : goal.invariant-loop-test
 invariant-loop-test l =
