@@ -1,12 +1,9 @@
--- Lemmas on the callers of `test_report_run` and `test_report_laws`.
-use Rattle.std.proofs.Common.{◌≡◌, ◌==◌, ◌↔◌, ◌⊎◌, ◌≤◌, ◌∙◌, ◌+◌, ◌<◌, ℕ, List, [], ◌∷◌, ◌++◌, Bor, IsTrue, ap, arith, false, get_or, inl, inr, length, map, subst, sym, take, true≢false}
-use Rattle.std.proofs.lemmas.Bool.Decides.{nat_tests}
+-- Lemmas on the caller of `test_report_run`.
+use Rattle.std.proofs.Common.{◌≡◌, ◌≤◌, ◌∙◌, ◌+◌, ◌<◌, ℕ, List, [], ◌∷◌, ◌++◌, Bor, ap, get_or, length, map, subst, sym, take}
 use Rattle.std.proofs.lemmas.List.{append-nil, map-append, take_all, take_more}
 use Rattle.std.proofs.lemmas.List.Concat.{flat_map-append}
 use Rattle.std.proofs.lemmas.List.Sums.{fold-append}
 use Rattle.std.specs.List.{AllZip, flat_map}
-use Rattle.run_events_stats.specs.declared.outcome.run_outcome.RunOutcome.{RunOutcome}
-use Rattle.run_events_stats.specs.declared.outcome.run_outcome.RunOutcome.TheVariants.{NoTestsRun, Success}
 use Rattle.test_report_events.specs.Event.{EventView}
 use Rattle.test_report_events.specs.Line.{LineSays}
 use Rattle.test_report_run.specs.Run.{RunState, after, run_after, run_settings, run_start}
@@ -58,14 +55,3 @@ run-more lines i d own old new few run says step =
 pub run-of-all : (lines : List (Bor (List ℕ))) (i : ℕ) (run : RunState) → length lines ≤ i → IsRunOf (map (λ l. l.now) (take i lines)) run
     → IsRunOf (map (λ l. l.now) lines) run
 run-of-all lines i run all of = subst (λ ls. IsRunOf (map (λ l. l.now) ls) run) (take_all i lines all) of
-
--- the exit status is 0 if and only if the run succeeded, if no test must have run
-pub status-is : (status : ℕ) (of is : RunOutcome) → of ≡ is → (status ≡ 0) ↔ ((of ≡ Success) ⊎ ((of ≡ NoTestsRun) × IsTrue false))
-    → IsTrue (status == 0) ↔ (is ≡ Success)
-status-is status of is same zero = (
-  λ yes. elim (zero.0 (grind (arith, nat_tests, yes))) as (λ _. is ≡ Success) [
-    | inl success ↦ sym same ∙ success
-    | inr none ↦ absurd (true≢false (sym none.1))
-  ],
-  λ success. grind (arith, nat_tests, zero.1 (inl (same ∙ success))),
-)

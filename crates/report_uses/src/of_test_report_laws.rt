@@ -8,11 +8,11 @@ ghost use Rattle.test_report_laws.specs.Status.{IsInOrder, Succeeds};
 ghost use Rattle.test_report_laws.specs.Whole.{whole_end};
 ghost use Rattle.test_report_run.specs.Run.{run_settings};
 
+use crate::of_test_report_run::end_of_lines;
+use run_events_stats::outcome::RunOutcome;
 use std::alloc::Global;
-use test_report_events::line::Line;
 use test_report_laws::run::success_is_in_order;
 use test_report_run::error::RunError;
-use test_report_run::run::TestRun;
 
 /// Returns true if and only if the run with these lines succeeded. If so, its lines are in order: for example,
 /// no line says that a test failed.
@@ -23,11 +23,6 @@ pub fn succeeds_in_order(alloc: Global, lines: &[&[u8]]) -> Result<bool, RunErro
         × (IsTrue success → IsInOrder (run_settings 60000000 []) (flat_map (λ line. line) events ∷ []))) }
 {
     success_is_in_order();
-    let mut run = TestRun::new(alloc, 60_000_000);
-    for bytes in lines {
-        let line = Line::read(alloc, bytes)?;
-        run.on_line(alloc, &line)?;
-    }
-    let finished = run.finish(alloc, None, false)?;
-    Ok(finished.status == 0)
+    let end = end_of_lines(alloc, lines)?;
+    Ok(end.outcome == RunOutcome::Success)
 }
