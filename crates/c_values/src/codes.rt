@@ -76,46 +76,53 @@ const OUTCOMES: [RunOutcome; 6] = [
     },
 ];
 
+/// Returns the value of a code in a table, or `None` if the code is not in it.
+fn at<T: Copy>(table: &[T], code: u32) -> Option<T>
+    ensures { result ≡ slice_get table.now code }
+{
+    table.get(code as usize).copied()
+}
+
 /// Returns how a flaky test counts, or `None` if the code is not in the table.
 pub fn flaky_result(code: u32) -> Option<FlakyResult>
     ensures { result ≡ slice_get flaky_results code }
 {
-    FLAKY_RESULTS.get(code as usize).copied()
+    at(&FLAKY_RESULTS, code)
 }
 
 /// Returns why a run is cancelled, if it is, or `None` if the code is not in the table.
 pub fn reason(code: u32) -> Option<Option<CancelReason>>
     ensures { result ≡ slice_get reasons code }
 {
-    REASONS.get(code as usize).copied()
+    at(&REASONS, code)
 }
 
 /// Returns the status level of a code, or `None` if the code is not in the table.
 pub fn level(code: u32) -> Option<StatusLevel>
     ensures { result ≡ slice_get levels code }
 {
-    LEVELS.get(code as usize).copied()
+    at(&LEVELS, code)
 }
 
 /// Returns the final level of a code, or `None` if the code is not in the table.
 pub fn final_level(code: u32) -> Option<FinalStatusLevel>
     ensures { result ≡ slice_get final_levels code }
 {
-    FINAL_LEVELS.get(code as usize).copied()
+    at(&FINAL_LEVELS, code)
 }
 
 /// Returns when output is displayed, or `None` if the code is not in the table.
 pub fn display(code: u32) -> Option<TestOutputDisplay>
     ensures { result ≡ slice_get displays code }
 {
-    DISPLAYS.get(code as usize).copied()
+    at(&DISPLAYS, code)
 }
 
 /// Returns the outcome of a code, or `None` if the code is not in the table.
 pub fn outcome(code: u32) -> Option<RunOutcome>
     ensures { result ≡ slice_get outcomes code }
 {
-    OUTCOMES.get(code as usize).copied()
+    at(&OUTCOMES, code)
 }
 
 /// Returns the result of an attempt from its code and its number, or `None` if the code is not in

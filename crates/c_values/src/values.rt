@@ -1,29 +1,16 @@
 //! Conversions of structs of C to values of the layer and back.
 
-ghost use Rattle.std.specs.Prelude.{◌≡◌, MatchOption, Some, option_map};
+ghost use Rattle.std.specs.Prelude.{◌≡◌, MatchOption, None, Some, option_and_then, option_map};
 ghost use Rattle.c_values.specs.Layout.{HasNoMore, IsStepAlone, final_in, kind_in, stats_in, view_in};
+ghost use Rattle.run_events_results.specs.Level.{final_level_of, level_of};
 ghost use Rattle.run_events_results.specs.ViewedTest.{finished_view};
 
 use crate::codes;
 use crate::layout::{FfiFinalStats, FfiRunStats, FfiTestView};
-use crate::status::{BAD_CODE, OK};
+use run_events_results::levels::{FinalStatusLevel, StatusLevel};
 use run_events_results::view::FinishedTest;
 use run_events_stats::outcome::{FinalRunStats, RunStatsFailureKind};
 use run_events_stats::stats::RunStats;
-
-/// Writes the value if there is one, and returns the status: `OK` or `BAD_CODE`.
-pub fn give<T: Copy>(answer: &mut T, value: Option<T>) -> u32
-    ensures { MatchOption value ((result ≡ BAD_CODE) × (answer.new ≡ answer.old))
-        (λ given. (result ≡ OK) × (answer.new ≡ given)) }
-{
-    match value {
-        Some(given) => {
-            *answer = given;
-            OK
-        }
-        None => BAD_CODE,
-    }
-}
 
 /// Returns the finished test, or `None` if a code is not in its table.
 pub fn finished_test(test: &FfiTestView) -> Option<FinishedTest>
@@ -36,6 +23,17 @@ pub fn finished_test(test: &FfiTestView) -> Option<FinishedTest>
         is_slow: test.is_slow,
         flaky_result,
     })
+}
+
+/// Returns the levels of a finished test, or `None` if a code is not in its table.
+pub fn levels_of(test: &FfiTestView) -> Option<(StatusLevel, FinalStatusLevel)>
+    ensures { MatchOption result (view_in test.now ≡ None) (λ levels.
+        (option_and_then level_of (view_in test.now) ≡ Some levels.0)
+        × (option_and_then final_level_of (view_in test.now) ≡ Some levels.1)) }
+{
+    let finished = finished_test(test)?;
+    let view = finished.view();
+    Some((view.status_level(), view.final_status_level()))
 }
 
 /// Returns the counters of a run, or `None` if the code of the reason is not in its table.

@@ -98,6 +98,9 @@ pub extern "C" fn deodarsieve_run_stats_has_failures(stats: &FfiRunStats, answer
         ≡ option_map (λ s. any_script_failed s || any_test_failed s) (stats_in stats.now) }
     ensures untouched { result ≢ OK → answer.new ≡ answer.old }
 {
-    let failures = values::run_stats(stats).map(|counters| counters.has_failures());
-    values::give(answer, failures)
+    let Some(counters) = values::run_stats(stats) else {
+        return BAD_CODE;
+    };
+    *answer = counters.has_failures();
+    OK
 }

@@ -9,7 +9,7 @@ ghost use Rattle.run_events_results.specs.Results.{is_termination_failure, succe
 
 use c_values::layout::{FfiFinishedTest, FfiOutput, FfiResult, FfiTestView};
 use c_values::levels::{output_of, written_output};
-use c_values::status::OK;
+use c_values::status::{BAD_CODE, OK};
 use c_values::{codes, values};
 
 /// Writes the code of a finished test's status level.
@@ -20,8 +20,11 @@ pub extern "C" fn deodarsieve_test_view_status_level(test: &FfiTestView, answer:
         → slice_get levels answer.new ≡ option_and_then level_of (view_in test.now) }
     ensures untouched { result ≢ OK → answer.new ≡ answer.old }
 {
-    let level = values::finished_test(test).map(|finished| finished.view().status_level());
-    values::give(answer, level.map(codes::level_code))
+    let Some((level, _)) = values::levels_of(test) else {
+        return BAD_CODE;
+    };
+    *answer = codes::level_code(level);
+    OK
 }
 
 /// Writes the code of a finished test's final status level.
@@ -35,8 +38,11 @@ pub extern "C" fn deodarsieve_test_view_final_status_level(
         → slice_get final_levels answer.new ≡ option_and_then final_level_of (view_in test.now) }
     ensures untouched { result ≢ OK → answer.new ≡ answer.old }
 {
-    let level = values::finished_test(test).map(|finished| finished.view().final_status_level());
-    values::give(answer, level.map(codes::final_level_code))
+    let Some((_, level)) = values::levels_of(test) else {
+        return BAD_CODE;
+    };
+    *answer = codes::final_level_code(level);
+    OK
 }
 
 /// Writes what a reporter displays of a test that has just finished, and what it stores.
@@ -49,7 +55,11 @@ pub extern "C" fn deodarsieve_finished_test_compute_output(
     ensures value { result ≡ OK → output_in answer.new ≡ visibility_in test.now }
     ensures untouched { result ≢ OK → answer.new ≡ answer.old }
 {
-    values::give(answer, output_of(test).map(written_output))
+    let Some(output) = output_of(test) else {
+        return BAD_CODE;
+    };
+    *answer = written_output(output);
+    OK
 }
 
 /// Writes whether an attempt succeeded.
@@ -59,8 +69,11 @@ pub extern "C" fn deodarsieve_result_is_success(ended: &FfiResult, answer: &mut 
     ensures value { result ≡ OK → Some answer.new ≡ option_map succeeds (result_in ended.now) }
     ensures untouched { result ≢ OK → answer.new ≡ answer.old }
 {
-    let is_success = codes::described(*ended).map(|described| described.is_success());
-    values::give(answer, is_success)
+    let Some(described) = codes::described(*ended) else {
+        return BAD_CODE;
+    };
+    *answer = described.is_success();
+    OK
 }
 
 /// Writes whether an attempt failed by `SIGTERM` or by the end of its job object.
@@ -74,8 +87,9 @@ pub extern "C" fn deodarsieve_result_is_termination_failure(
         → Some answer.new ≡ option_map is_termination_failure (result_in ended.now) }
     ensures untouched { result ≢ OK → answer.new ≡ answer.old }
 {
-    let is_termination = codes::described(*ended).map(
-        |described| described.is_termination_failure(),
-    );
-    values::give(answer, is_termination)
+    let Some(described) = codes::described(*ended) else {
+        return BAD_CODE;
+    };
+    *answer = described.is_termination_failure();
+    OK
 }

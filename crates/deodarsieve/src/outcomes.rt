@@ -25,8 +25,11 @@ pub extern "C" fn deodarsieve_run_stats_summarize(
     ensures no_more { result ≡ OK → HasNoMore answer.new }
     ensures untouched { result ≢ OK → answer.new ≡ answer.old }
 {
-    let summary = values::run_stats(stats).map(|counters| counters.summarize_final());
-    values::give(answer, summary.map(values::written_final))
+    let Some(counters) = values::run_stats(stats) else {
+        return BAD_CODE;
+    };
+    *answer = values::written_final(counters.summarize_final());
+    OK
 }
 
 /// Writes the code of a run's outcome, from the summaries of all its sub-runs: the highest of their
@@ -42,7 +45,11 @@ pub extern "C" fn deodarsieve_outcome_of_sub_runs(
         (IsHighest (map outcome_in sub_runs.now)) }
     ensures untouched { result ≢ OK → answer.new ≡ answer.old }
 {
-    values::give(answer, outcome_of(sub_runs).map(codes::outcome_code))
+    let Some(outcome) = outcome_of(sub_runs) else {
+        return BAD_CODE;
+    };
+    *answer = codes::outcome_code(outcome);
+    OK
 }
 
 /// Writes the code of the higher of two outcomes.
@@ -52,11 +59,11 @@ pub extern "C" fn deodarsieve_outcome_combine(outcome: u32, other: u32, answer: 
     ensures value { result ≡ OK → slice_get outcomes answer.new ≡ combined_in outcome other }
     ensures untouched { result ≢ OK → answer.new ≡ answer.old }
 {
-    let higher = match (codes::outcome(outcome), codes::outcome(other)) {
-        (Some(outcome), Some(other)) => Some(codes::outcome_code(outcome.combine(other))),
-        _ => None,
+    let (Some(outcome), Some(other)) = (codes::outcome(outcome), codes::outcome(other)) else {
+        return BAD_CODE;
     };
-    values::give(answer, higher)
+    *answer = codes::outcome_code(outcome.combine(other));
+    OK
 }
 
 /// Writes the code of a repeated run's summary, from the number of its sub-runs that failed and the
@@ -72,17 +79,18 @@ pub extern "C" fn deodarsieve_final_stats_summarize_stress(
         ≡ option_map (stress_summary_in failed_count) (final_in last.now) }
     ensures untouched { result ≢ OK → answer.new ≡ answer.old }
 {
-    let amounts = values::final_stats(last).map(|last_final_stats| {
-        let stats = StressRunStats {
-            completed: StressIndex {
-                current: 0,
-                total: None,
-            },
-            success_count: 0,
-            failed_count,
-            last_final_stats,
-        };
-        codes::stress_final_code(stats.summarize_final())
-    });
-    values::give(answer, amounts)
+    let Some(last_final_stats) = values::final_stats(last) else {
+        return BAD_CODE;
+    };
+    let stats = StressRunStats {
+        completed: StressIndex {
+            current: 0,
+            total: None,
+        },
+        success_count: 0,
+        failed_count,
+        last_final_stats,
+    };
+    *answer = codes::stress_final_code(stats.summarize_final());
+    OK
 }

@@ -1,6 +1,6 @@
 //! The part of a test's output that explains its failure, and the last head of a panic message.
 
-ghost use Rattle.std.specs.Prelude.{◌≡◌, ◌≢◌, ◌≤◌, ◌<◌, ◌+◌, ◌*◌, ◌^◌, ◌↔◌, ℕ, List, length, Option, IsFalse, IsTrue};
+ghost use Rattle.std.specs.Prelude.{◌≡◌, ◌≢◌, ◌≤◌, ◌<◌, ◌+◌, ◌*◌, ◌^◌, ◌↔◌, ℕ, List, length, Option, IsFalse, IsTrue, is_some};
 ghost use Rattle.c_values.specs.Layout.{LiesWithin, captured, head_in, reads_out, slice_out};
 ghost use Rattle.output_slice.specs.Extraction.{Extract, IsCappedExtract, IsExtract};
 ghost use Rattle.output_slice.specs.Head.{IsHead};
@@ -10,7 +10,7 @@ ghost use Rattle.output_slice.specs.declared.panic_head.HeadSpan.{HeadSpan};
 use c_values::layout::{FfiHead, FfiSlice};
 use c_values::slices::{stream, written_slice};
 use c_values::status::{BAD_CODE, OK};
-use output_slice::{ByteSource, CountedBytes, TestOutputErrorSlice, last_panic_head};
+use output_slice::{ByteSource, CountedBytes, HeadSpan, TestOutputErrorSlice, last_panic_head};
 use std::num::NonZero;
 
 /// Writes the part of a test's output that explains its failure: the last panic message in standard
@@ -88,28 +88,32 @@ pub extern "C" fn deodarsieve_head_find_last(bytes: &[u8], answer: &mut FfiHead)
     ensures few { answer.new.reads ≤ 3 * length bytes.now + 8 }
     ensures all { length bytes.now ≤ answer.new.reads }
 {
-    *answer = counted_head(&mut CountedBytes::new(bytes));
+    let mut source = CountedBytes::new(bytes);
+    let head = last_panic_head(&mut source);
+    *answer = written_head(head, source.reads());
     OK
 }
 
-/// Searches a source for the last head, and returns it with the number of reads that the source has
-/// counted after the search.
-fn counted_head(source: &mut CountedBytes<'_>) -> FfiHead
-    requires { source.old.1 + 8 * length source.old.0 + 8 < 2 ^ 128 }
-    ensures last { IsLastTaken source.old.0 (head_in result) }
-    ensures only { (taken : List HeadSpan) → IsTaken source.old.0 taken
-        → head_in result ≡ last_of taken }
-    ensures found { IsTrue result.is_found ↔ ((s : ℕ) × (e : ℕ) × IsHead source.old.0 s e) }
+/// Returns the struct of C for a head or for none, and the number of reads.
+fn written_head(head: Option<HeadSpan>, reads: u128) -> FfiHead
+    ensures head { head_in result ≡ head }
+    ensures found { result.is_found ≡ is_some head }
     ensures nothing { IsFalse result.is_found → (result.start ≡ 0) × (result.stop ≡ 0) }
-    ensures reads { result.reads ≡ reads_out source.new.1 }
-    ensures few { source.new.1 ≤ source.old.1 + (3 * length source.old.0 + 8) }
-    ensures all { source.old.1 + length source.old.0 ≤ source.new.1 }
+    ensures reads { result.reads ≡ reads_out reads }
 {
-    let head = last_panic_head(source);
-    FfiHead {
-        is_found: head.is_some(),
-        start: head.map_or(0, |head| head.start),
-        stop: head.map_or(0, |head| head.stop),
-        reads: u64::try_from(source.reads()).unwrap_or(u64::MAX),
+    let reads = u64::try_from(reads).unwrap_or(u64::MAX);
+    match head {
+        Some(head) => FfiHead {
+            is_found: true,
+            start: head.start,
+            stop: head.stop,
+            reads,
+        },
+        None => FfiHead {
+            is_found: false,
+            start: 0,
+            stop: 0,
+            reads,
+        },
     }
 }

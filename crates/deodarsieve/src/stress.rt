@@ -5,9 +5,8 @@ ghost use Rattle.c_values.specs.Layout.{HasOnlyItsKind, left_after, left_in};
 ghost use Rattle.c_values.specs.Status.{status_of};
 
 use c_values::layout::{FfiStressProgress, FfiStressRemaining};
-use c_values::status::OK;
+use c_values::status::{BAD_CODE, OK};
 use c_values::stress::{progress_of, written_left};
-use c_values::values;
 
 /// Writes what remains of a repeated run. Returns `BAD_CODE` for a count of 0, and for a duration
 /// with 1,000,000,000 nanoseconds or more.
@@ -21,6 +20,9 @@ pub extern "C" fn deodarsieve_stress_progress_remaining(
     ensures no_more { result ≡ OK → HasOnlyItsKind answer.new }
     ensures untouched { result ≢ OK → answer.new ≡ answer.old }
 {
-    let left = progress_of(progress).map(|progress| written_left(progress.remaining()));
-    values::give(answer, left)
+    let Some(progress) = progress_of(progress) else {
+        return BAD_CODE;
+    };
+    *answer = written_left(progress.remaining());
+    OK
 }

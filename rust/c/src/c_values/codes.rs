@@ -70,34 +70,39 @@ const OUTCOMES: [RunOutcome; 6] = [
     },
 ];
 
+/// Returns the value of a code in a table, or `None` if the code is not in it.
+fn at<T: Copy>(table: &[T], code: u32) -> Option<T> {
+    table.get(code as usize).copied()
+}
+
 /// Returns how a flaky test counts, or `None` if the code is not in the table.
 pub fn flaky_result(code: u32) -> Option<FlakyResult> {
-    FLAKY_RESULTS.get(code as usize).copied()
+    at(&FLAKY_RESULTS, code)
 }
 
 /// Returns why a run is cancelled, if it is, or `None` if the code is not in the table.
 pub fn reason(code: u32) -> Option<Option<CancelReason>> {
-    REASONS.get(code as usize).copied()
+    at(&REASONS, code)
 }
 
 /// Returns the status level of a code, or `None` if the code is not in the table.
 pub fn level(code: u32) -> Option<StatusLevel> {
-    LEVELS.get(code as usize).copied()
+    at(&LEVELS, code)
 }
 
 /// Returns the final level of a code, or `None` if the code is not in the table.
 pub fn final_level(code: u32) -> Option<FinalStatusLevel> {
-    FINAL_LEVELS.get(code as usize).copied()
+    at(&FINAL_LEVELS, code)
 }
 
 /// Returns when output is displayed, or `None` if the code is not in the table.
 pub fn display(code: u32) -> Option<TestOutputDisplay> {
-    DISPLAYS.get(code as usize).copied()
+    at(&DISPLAYS, code)
 }
 
 /// Returns the outcome of a code, or `None` if the code is not in the table.
 pub fn outcome(code: u32) -> Option<RunOutcome> {
-    OUTCOMES.get(code as usize).copied()
+    at(&OUTCOMES, code)
 }
 
 /// Returns the result of an attempt from its code and its number, or `None` if the code is not in

@@ -14,6 +14,7 @@ pub fn output_of(test: &FfiFinishedTest) -> Option<OutputOnTestFinished> {
     let display = codes::display(test.display)?;
     let level = codes::level(test.test_status_level)?;
     let final_level = codes::final_level(test.test_final_status_level)?;
+    // If this came last, the compiler would not see that the result has no text, and the library would need an allocator.
     let ended = codes::described(test.result)?;
     let reason = codes::reason(test.cancel_reason)?;
     Some(own.compute_output_on_test_finished(display, reason, level, final_level, &ended))

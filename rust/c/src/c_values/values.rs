@@ -3,21 +3,10 @@
 
 use crate::c_values::codes;
 use crate::c_values::layout::{FfiFinalStats, FfiRunStats, FfiTestView};
-use crate::c_values::status::{BAD_CODE, OK};
 use deodarsieve::FinishedTest;
 use deodarsieve::RunStats;
 use deodarsieve::{FinalRunStats, RunStatsFailureKind};
-
-/// Writes the value if there is one, and returns the status: `OK` or `BAD_CODE`.
-pub fn give<T: Copy>(answer: &mut T, value: Option<T>) -> u32 {
-    match value {
-        Some(given) => {
-            *answer = given;
-            OK
-        }
-        None => BAD_CODE,
-    }
-}
+use deodarsieve::{FinalStatusLevel, StatusLevel};
 
 /// Returns the finished test, or `None` if a code is not in its table.
 pub fn finished_test(test: &FfiTestView) -> Option<FinishedTest> {
@@ -28,6 +17,13 @@ pub fn finished_test(test: &FfiTestView) -> Option<FinishedTest> {
         is_slow: test.is_slow,
         flaky_result,
     })
+}
+
+/// Returns the levels of a finished test, or `None` if a code is not in its table.
+pub fn levels_of(test: &FfiTestView) -> Option<(StatusLevel, FinalStatusLevel)> {
+    let finished = finished_test(test)?;
+    let view = finished.view();
+    Some((view.status_level(), view.final_status_level()))
 }
 
 /// Returns the counters of a run, or `None` if the code of the reason is not in its table.

@@ -70,6 +70,9 @@ pub extern "C" fn deodarsieve_run_stats_has_failures(
     stats: &FfiRunStats,
     answer: &mut bool,
 ) -> u32 {
-    let failures = values::run_stats(stats).map(|counters| counters.has_failures());
-    values::give(answer, failures)
+    let Some(counters) = values::run_stats(stats) else {
+        return BAD_CODE;
+    };
+    *answer = counters.has_failures();
+    OK
 }

@@ -3,13 +3,17 @@
 
 use crate::c_values::layout::{FfiFinishedTest, FfiOutput, FfiResult, FfiTestView};
 use crate::c_values::levels::{output_of, written_output};
+use crate::c_values::status::{BAD_CODE, OK};
 use crate::c_values::{codes, values};
 
 /// Writes the code of a finished test's status level.
 #[unsafe(no_mangle)]
 pub extern "C" fn deodarsieve_test_view_status_level(test: &FfiTestView, answer: &mut u32) -> u32 {
-    let level = values::finished_test(test).map(|finished| finished.view().status_level());
-    values::give(answer, level.map(codes::level_code))
+    let Some((level, _)) = values::levels_of(test) else {
+        return BAD_CODE;
+    };
+    *answer = codes::level_code(level);
+    OK
 }
 
 /// Writes the code of a finished test's final status level.
@@ -18,8 +22,11 @@ pub extern "C" fn deodarsieve_test_view_final_status_level(
     test: &FfiTestView,
     answer: &mut u32,
 ) -> u32 {
-    let level = values::finished_test(test).map(|finished| finished.view().final_status_level());
-    values::give(answer, level.map(codes::final_level_code))
+    let Some((_, level)) = values::levels_of(test) else {
+        return BAD_CODE;
+    };
+    *answer = codes::final_level_code(level);
+    OK
 }
 
 /// Writes what a reporter displays of a test that has just finished, and what it stores.
@@ -28,14 +35,21 @@ pub extern "C" fn deodarsieve_finished_test_compute_output(
     test: &FfiFinishedTest,
     answer: &mut FfiOutput,
 ) -> u32 {
-    values::give(answer, output_of(test).map(written_output))
+    let Some(output) = output_of(test) else {
+        return BAD_CODE;
+    };
+    *answer = written_output(output);
+    OK
 }
 
 /// Writes whether an attempt succeeded.
 #[unsafe(no_mangle)]
 pub extern "C" fn deodarsieve_result_is_success(ended: &FfiResult, answer: &mut bool) -> u32 {
-    let is_success = codes::described(*ended).map(|described| described.is_success());
-    values::give(answer, is_success)
+    let Some(described) = codes::described(*ended) else {
+        return BAD_CODE;
+    };
+    *answer = described.is_success();
+    OK
 }
 
 /// Writes whether an attempt failed by `SIGTERM` or by the end of its job object.
@@ -44,7 +58,9 @@ pub extern "C" fn deodarsieve_result_is_termination_failure(
     ended: &FfiResult,
     answer: &mut bool,
 ) -> u32 {
-    let is_termination =
-        codes::described(*ended).map(|described| described.is_termination_failure());
-    values::give(answer, is_termination)
+    let Some(described) = codes::described(*ended) else {
+        return BAD_CODE;
+    };
+    *answer = described.is_termination_failure();
+    OK
 }

@@ -3,6 +3,7 @@
 
 use crate::c_values::layout::{FfiFinalStats, FfiRunStats};
 use crate::c_values::outcomes::outcome_of;
+use crate::c_values::status::{BAD_CODE, OK};
 use crate::c_values::{codes, values};
 use deodarsieve::StressIndex;
 use deodarsieve::StressRunStats;
@@ -13,8 +14,11 @@ pub extern "C" fn deodarsieve_run_stats_summarize(
     stats: &FfiRunStats,
     answer: &mut FfiFinalStats,
 ) -> u32 {
-    let summary = values::run_stats(stats).map(|counters| counters.summarize_final());
-    values::give(answer, summary.map(values::written_final))
+    let Some(counters) = values::run_stats(stats) else {
+        return BAD_CODE;
+    };
+    *answer = values::written_final(counters.summarize_final());
+    OK
 }
 
 /// Writes the code of a run's outcome, from the summaries of all its sub-runs: the highest of their
@@ -32,17 +36,21 @@ pub unsafe extern "C" fn deodarsieve_outcome_of_sub_runs(
     answer: &mut u32,
 ) -> u32 {
     let sub_runs = unsafe { crate::slice_of(sub_runs, sub_runs_length) };
-    values::give(answer, outcome_of(sub_runs).map(codes::outcome_code))
+    let Some(outcome) = outcome_of(sub_runs) else {
+        return BAD_CODE;
+    };
+    *answer = codes::outcome_code(outcome);
+    OK
 }
 
 /// Writes the code of the higher of two outcomes.
 #[unsafe(no_mangle)]
 pub extern "C" fn deodarsieve_outcome_combine(outcome: u32, other: u32, answer: &mut u32) -> u32 {
-    let higher = match (codes::outcome(outcome), codes::outcome(other)) {
-        (Some(outcome), Some(other)) => Some(codes::outcome_code(outcome.combine(other))),
-        _ => None,
+    let (Some(outcome), Some(other)) = (codes::outcome(outcome), codes::outcome(other)) else {
+        return BAD_CODE;
     };
-    values::give(answer, higher)
+    *answer = codes::outcome_code(outcome.combine(other));
+    OK
 }
 
 /// Writes the code of a repeated run's summary, from the number of its sub-runs that failed and the
@@ -53,17 +61,18 @@ pub extern "C" fn deodarsieve_final_stats_summarize_stress(
     failed_count: u32,
     answer: &mut u32,
 ) -> u32 {
-    let amounts = values::final_stats(last).map(|last_final_stats| {
-        let stats = StressRunStats {
-            completed: StressIndex {
-                current: 0,
-                total: None,
-            },
-            success_count: 0,
-            failed_count,
-            last_final_stats,
-        };
-        codes::stress_final_code(stats.summarize_final())
-    });
-    values::give(answer, amounts)
+    let Some(last_final_stats) = values::final_stats(last) else {
+        return BAD_CODE;
+    };
+    let stats = StressRunStats {
+        completed: StressIndex {
+            current: 0,
+            total: None,
+        },
+        success_count: 0,
+        failed_count,
+        last_final_stats,
+    };
+    *answer = codes::stress_final_code(stats.summarize_final());
+    OK
 }

@@ -5,7 +5,7 @@ use crate::c_values::layout::{FfiHead, FfiSlice};
 use crate::c_values::slices::{stream, written_slice};
 use crate::c_values::status::{BAD_CODE, OK};
 use deodarsieve::TestOutputErrorSlice;
-use deodarsieve::counted::{ByteSource, CountedBytes, last_panic_head};
+use deodarsieve::counted::{ByteSource, CountedBytes, HeadSpan, last_panic_head};
 use std::num::NonZero;
 
 /// Writes the part of a test's output that explains its failure: the last panic message in standard
@@ -87,18 +87,27 @@ pub unsafe extern "C" fn deodarsieve_head_find_last(
     answer: &mut FfiHead,
 ) -> u32 {
     let bytes = unsafe { crate::slice_of(bytes, bytes_length) };
-    *answer = counted_head(&mut CountedBytes::new(bytes));
+    let mut source = CountedBytes::new(bytes);
+    let head = last_panic_head(&mut source);
+    *answer = written_head(head, source.reads());
     OK
 }
 
-/// Searches a source for the last head, and returns it with the number of reads that the source has
-/// counted after the search.
-fn counted_head(source: &mut CountedBytes<'_>) -> FfiHead {
-    let head = last_panic_head(source);
-    FfiHead {
-        is_found: head.is_some(),
-        start: head.map_or(0, |head| head.start),
-        stop: head.map_or(0, |head| head.stop),
-        reads: u64::try_from(source.reads()).unwrap_or(u64::MAX),
+/// Returns the struct of C for a head or for none, and the number of reads.
+fn written_head(head: Option<HeadSpan>, reads: u128) -> FfiHead {
+    let reads = u64::try_from(reads).unwrap_or(u64::MAX);
+    match head {
+        Some(head) => FfiHead {
+            is_found: true,
+            start: head.start,
+            stop: head.stop,
+            reads,
+        },
+        None => FfiHead {
+            is_found: false,
+            start: 0,
+            stop: 0,
+            reads,
+        },
     }
 }

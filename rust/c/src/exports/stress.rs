@@ -2,8 +2,8 @@
 //! What remains of a repeated run.
 
 use crate::c_values::layout::{FfiStressProgress, FfiStressRemaining};
+use crate::c_values::status::{BAD_CODE, OK};
 use crate::c_values::stress::{progress_of, written_left};
-use crate::c_values::values;
 
 /// Writes what remains of a repeated run. Returns `BAD_CODE` for a count of 0, and for a duration
 /// with 1,000,000,000 nanoseconds or more.
@@ -12,6 +12,9 @@ pub extern "C" fn deodarsieve_stress_progress_remaining(
     progress: &FfiStressProgress,
     answer: &mut FfiStressRemaining,
 ) -> u32 {
-    let left = progress_of(progress).map(|progress| written_left(progress.remaining()));
-    values::give(answer, left)
+    let Some(progress) = progress_of(progress) else {
+        return BAD_CODE;
+    };
+    *answer = written_left(progress.remaining());
+    OK
 }
