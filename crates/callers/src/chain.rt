@@ -77,39 +77,46 @@ pub(crate) fn from_message_and_causes(alloc: Global) -> Result<Outcome, AllocErr
 pub(crate) fn to_value(alloc: Global) -> Result<Outcome, AllocError> {
     let error = error(alloc, 2)?;
     let known = value_of(alloc, KNOWN)?;
-    Ok(match error.to_value(alloc) {
-        Ok(value) => Outcome::RightAnswer.only_if(value == known && is_known(&error)),
-        Err(AllocError) => Outcome::OutOfMemory.only_if(is_known(&error)),
-    })
+    Ok(written(alloc, &error, &known))
+}
+
+/// Returns the outcome of writing the known error, whose value is `known`.
+fn written(alloc: Global, error: &SerializableError, known: &Value) -> Outcome {
+    match error.to_value(alloc) {
+        Ok(value) => Outcome::RightAnswer.only_if(value == *known),
+        Err(AllocError) => Outcome::OutOfMemory,
+    }
+    .only_if(is_known(error))
 }
 
 pub(crate) fn from_value(alloc: Global) -> Result<Outcome, AllocError> {
     let value = value_of(alloc, KNOWN)?;
     let known = value_of(alloc, KNOWN)?;
-    Ok(match SerializableError::from_value(alloc, &value) {
-        Ok(error) => Outcome::RightAnswer.only_if(is_known(&error) && value == known),
-        Err(FromValueError::OutOfMemory) => Outcome::OutOfMemory.only_if(value == known),
+    Ok(read(alloc, &value).only_if(value == known))
+}
+
+/// Returns the outcome of reading the known error.
+fn read(alloc: Global, value: &Value) -> Outcome {
+    match SerializableError::from_value(alloc, value) {
+        Ok(error) => Outcome::RightAnswer.only_if(is_known(&error)),
+        Err(FromValueError::OutOfMemory) => Outcome::OutOfMemory,
         Err(_) => Outcome::WrongAnswer,
-    })
+    }
 }
 
 /// Returns true if the value of a text is refused with this reason.
 fn is_refused(alloc: Global, text: &str, wanted: FromValueError) -> Result<bool, AllocError> {
     let value = value_of(alloc, text)?;
-    Ok(match SerializableError::from_value(alloc, &value) {
-        Ok(_) => false,
-        Err(refusal) => refusal == wanted,
-    })
+    Ok(SerializableError::from_value(alloc, &value).err() == Some(wanted))
 }
 
 /// Reads values that are not errors, which takes no memory.
 pub(crate) fn from_other_values(alloc: Global) -> Result<Outcome, AllocError> {
-    let mut are_refused = true;
+    let mut outcome = Outcome::RightAnswer;
     for (text, wanted) in OTHER {
-        let is_refused = is_refused(alloc, text, wanted)?;
-        are_refused = are_refused && is_refused;
+        outcome = outcome.only_if(is_refused(alloc, text, wanted)?);
     }
-    Ok(Outcome::RightAnswer.only_if(are_refused))
+    Ok(outcome)
 }
 
 /// Makes a long error, writes it as a value, and reads it from the value.
@@ -117,8 +124,20 @@ pub(crate) fn long_error(alloc: Global) -> Result<Outcome, AllocError> {
     let longer = error(alloc, MANY + 1)?;
     let error = error(alloc, MANY)?;
     let value = error.to_value(alloc)?;
-    Ok(match SerializableError::from_value(alloc, &value) {
-        Ok(read) => Outcome::RightAnswer.only_if(read == error && read != longer),
+    Ok(read_again(alloc, &value, &error, &longer))
+}
+
+/// Returns the outcome of reading an error. It must differ from the longer one.
+fn read_again(
+    alloc: Global,
+    value: &Value,
+    error: &SerializableError,
+    longer: &SerializableError,
+) -> Outcome {
+    match SerializableError::from_value(alloc, value) {
+        Ok(read) => Outcome::RightAnswer
+            .only_if(read == *error)
+            .only_if(read != *longer),
         Err(_) => Outcome::WrongAnswer,
-    })
+    }
 }

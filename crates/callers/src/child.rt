@@ -18,6 +18,31 @@ use std::alloc::{AllocError, Global};
 /// The description of the output of a child process.
 pub(crate) type Description = ChildExecutionOutputDescription<LiveSpec>;
 
+/// An owned description. A drop of it is one call in a proof.
+pub(crate) struct OwnedDescription {
+    pub(crate) output: Description,
+}
+
+impl Drop for OwnedDescription {
+    fn drop(self) {
+        let OwnedDescription { output } = self;
+        drop(output);
+    }
+}
+
+impl OwnedDescription {
+    /// Describes output, with the name of the signal that ended the process. Fails if memory runs out, and gives back
+    /// what it was passed.
+    fn new(
+        alloc: Global,
+        output: ChildExecutionOutput,
+        name: Option<String>,
+    ) -> Result<OwnedDescription, Refused> {
+        let output = Description::from_output(alloc, output, name)?;
+        Ok(OwnedDescription { output })
+    }
+}
+
 /// The result of the process.
 const END: ExecutionResult = ExecutionResult::Fail {
     failure_status: FailureStatus::Abort(AbortStatus::UnixSignal(15)),
@@ -53,9 +78,9 @@ fn ended(alloc: Global, count: u32) -> Result<ChildExecutionOutput, AllocError> 
 }
 
 /// Returns the description of [`ended`].
-pub(crate) fn described(alloc: Global, count: u32) -> Result<Description, AllocError> {
+pub(crate) fn described(alloc: Global, count: u32) -> Result<OwnedDescription, AllocError> {
     let output = ended(alloc, count)?;
-    Description::from_output(alloc, output, None)
+    OwnedDescription::new(alloc, output, None)
         .ok()
         .ok_or(AllocError)
 }
@@ -75,15 +100,21 @@ fn is_end(end: &Option<ExecutionResultDescription>) -> bool {
     match end {
         Some(
             ExecutionResultDescription::Fail {
-                failure: FailureDescription::Abort {
-                    abort: AbortDescription::UnixSignal {
-                        signal: 15,
-                        name: Some(name),
-                    },
-                },
+                failure: FailureDescription::Abort { abort },
                 leaked: true,
             },
-        ) => name.as_str() == "TERM",
+        ) => is_term(abort),
+        _ => false,
+    }
+}
+
+/// Returns true if a process was ended by the signal 15, with its name.
+fn is_term(abort: &AbortDescription) -> bool {
+    match abort {
+        AbortDescription::UnixSignal {
+            signal: 15,
+            name: Some(name),
+        } => name.as_str() == "TERM",
         _ => false,
     }
 }
@@ -145,8 +176,8 @@ fn is_described(
     name: Option<String>,
     wanted: Wanted<'_>,
 ) -> Result<bool, Refused> {
-    let described = Description::from_output(alloc, output, name)?;
-    Ok(is_wanted(&described, wanted))
+    let described = OwnedDescription::new(alloc, output, name)?;
+    Ok(is_wanted(&described.output, wanted))
 }
 
 /// Returns true if what a call gave back is described as wanted: output and name are unchanged, so their description is
@@ -185,7 +216,11 @@ pub(crate) fn from_output(alloc: Global) -> Result<Outcome, AllocError> {
 pub(crate) fn from_output_without_errors(alloc: Global) -> Result<Outcome, AllocError> {
     let source = error(alloc, String::from_str(alloc, "s")?)?;
     let outcome = ended_outcome(alloc, 0)?;
+    Ok(outcome.only_if(is_start_error_described(alloc, source)))
+}
+
+/// Returns true if an error in starting a process is described as wanted.
+fn is_start_error_described(alloc: Global, source: SerializableError) -> bool {
     let output = ChildExecutionOutput::StartError(ChildStartError::Spawn(source));
-    let is_right = is_described(alloc, output, None, Wanted::NotStarted).unwrap_or(false);
-    Ok(outcome.only_if(is_right))
+    is_described(alloc, output, None, Wanted::NotStarted).unwrap_or(false)
 }

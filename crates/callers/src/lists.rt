@@ -1,12 +1,13 @@
 //! Lists of the errors of a test.
 
 use crate::chain::causes;
-use crate::child::{Description, described, is_read};
+use crate::child::{Description, OwnedDescription, described, is_read};
 use crate::outcome::Outcome;
 use run_events::child::{ChildExecutionOutputDescription, ChildOutputDescription, ErrorList};
 use run_events::results::{ExecutionResultDescription, UnitKind};
 use run_events::unit_error::{UnitError, UnitErrorDescription};
 use std::alloc::{AllocError, Global};
+use std::slice::Iter;
 
 /// The errors in one of the three lists.
 #[derive(Clone, Copy)]
@@ -55,22 +56,29 @@ fn is_unit_read(error: Option<&UnitError<'_>>, message: &str) -> bool {
     }
 }
 
+/// Returns true if the next errors are those in reading with these messages.
+fn are_reads(left: &mut Iter<'_, UnitError<'_>>, messages: &[String]) -> bool {
+    let mut are_reads = true;
+    for message in messages {
+        are_reads = are_reads && is_unit_read(left.next(), message.as_str());
+    }
+    are_reads
+}
+
+/// Returns true if the next errors are an abort and a slice.
+fn are_ends(left: &mut Iter<'_, UnitError<'_>>) -> bool {
+    matches!(left.next(), Some(UnitError::Abort(_)))
+        && matches!(left.next(), Some(UnitError::Slice(_)))
+}
+
 /// Returns true if a list is that of a test, and has the errors of these kinds: those in reading with
 /// these messages, the abort, and the slice.
 fn is_list(list: &ErrorList<UnitError<'_>>, kinds: Kinds, messages: &[String]) -> bool {
     let mut left = list.iter();
-    let mut is_right = list.description() == "executing test";
-    if kinds.has_reads() {
-        for message in messages {
-            is_right = is_right && is_unit_read(left.next(), message.as_str());
-        }
-    }
-    if kinds.has_ends() {
-        is_right = is_right
-            && matches!(left.next(), Some(UnitError::Abort(_)))
-            && matches!(left.next(), Some(UnitError::Slice(_)));
-    }
-    is_right && left.next().is_none()
+    list.description() == "executing test"
+        && (!kinds.has_reads() || are_reads(&mut left, messages))
+        && (!kinds.has_ends() || are_ends(&mut left))
+        && left.next().is_none()
 }
 
 /// Makes a list of the errors of a test, and returns true if it is right.
@@ -112,21 +120,22 @@ pub(crate) fn list_of_errors(
 ) -> Result<Outcome, AllocError> {
     let messages = causes(alloc, count)?;
     let output = described(alloc, count)?;
-    Ok(outcome_of(alloc, kinds, &output, messages.as_slice()))
+    Ok(outcome_of(alloc, kinds, &output.output, messages.as_slice()))
 }
 
 /// Makes the three lists of a test that passed, which are empty. This takes no memory.
 pub(crate) fn no_errors(alloc: Global) -> Outcome {
-    let output = ChildExecutionOutputDescription::Output {
-        result: Some(ExecutionResultDescription::Pass),
-        output: ChildOutputDescription::NotLoaded,
-        errors: None,
+    let passed = OwnedDescription {
+        output: ChildExecutionOutputDescription::Output {
+            result: Some(ExecutionResultDescription::Pass),
+            output: ChildOutputDescription::NotLoaded,
+            errors: None,
+        },
     };
-    Outcome::RightAnswer.only_if(
-        has_no_list(alloc, Kinds::All, &output)
-            && has_no_list(alloc, Kinds::ExecFail, &output)
-            && has_no_list(alloc, Kinds::ChildProcess, &output),
-    )
+    Outcome::RightAnswer
+        .only_if(has_no_list(alloc, Kinds::All, &passed.output))
+        .only_if(has_no_list(alloc, Kinds::ExecFail, &passed.output))
+        .only_if(has_no_list(alloc, Kinds::ChildProcess, &passed.output))
 }
 
 /// Returns true if a test has no list of these errors, and this takes no memory.

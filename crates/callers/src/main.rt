@@ -64,22 +64,26 @@ fn outcome_of(alloc: Global, name: &str) -> Result<Outcome, AllocError> {
     }
 }
 
-/// Makes the named call, and prints its name and outcome. Returns true unless the answer is wrong.
-fn make<R: AllocGlobal + Print>(rt: &R, name: &str) -> io::Result<bool> {
-    let outcome = outcome_of(rt.alloc(), name).unwrap_or(Outcome::NotReached);
-    let text = outcome.text();
-    println!(rt; "{name}: {text}")?;
-    Ok(!matches!(outcome, Outcome::WrongAnswer))
-}
-
-/// Makes each call once, as [`make`] does. Returns true unless an answer is wrong.
-fn make_all<R: AllocGlobal + Print>(rt: &R) -> io::Result<bool> {
+/// Makes the named calls, and prints the name and outcome of each. Returns true unless an answer is wrong.
+fn make<R: AllocGlobal + Print>(rt: &R, names: &[&str]) -> io::Result<bool> {
     let mut are_right = true;
-    for name in NAMES {
-        let is_right = make(rt, name)?;
-        are_right = are_right && is_right;
+    for name in names {
+        let outcome = outcome_of(rt.alloc(), name).unwrap_or(Outcome::NotReached);
+        let text = outcome.text();
+        println!(rt; "{name}: {text}")?;
+        are_right = are_right && outcome.is_right();
     }
     Ok(are_right)
+}
+
+/// Makes what a word asks for: one call, or all.
+fn run<R: AllocGlobal + Print>(rt: &R, word: &str) -> io::Result<ExitCode> {
+    let are_right = if word == "all" {
+        make(rt, &NAMES)?
+    } else {
+        make(rt, &[word])?
+    };
+    Ok(ExitCode::from(u8::from(!are_right)))
 }
 
 fn main(rt: HostRuntime) -> io::Result<ExitCode> {
@@ -87,13 +91,8 @@ fn main(rt: HostRuntime) -> io::Result<ExitCode> {
         println!(rt; "not reached")?;
         return Ok(ExitCode::FAILURE);
     };
-    let _program = words.next();
-    let name = words.next();
-    let name = name.as_ref().map_or("", |name| name.as_str());
-    let are_right = if name == "all" {
-        make_all(&rt)?
-    } else {
-        make(&rt, name)?
-    };
-    Ok(ExitCode::from(u8::from(!are_right)))
+    match words.nth(1) {
+        Some(word) => run(&rt, word.as_str()),
+        None => run(&rt, ""),
+    }
 }

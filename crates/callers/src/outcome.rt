@@ -22,6 +22,11 @@ impl Outcome {
         if is_right { self } else { Outcome::WrongAnswer }
     }
 
+    /// Returns false for a wrong answer.
+    pub(crate) fn is_right(self) -> bool {
+        !matches!(self, Outcome::WrongAnswer)
+    }
+
     /// Returns the words for the outcome.
     pub(crate) fn text(self) -> &'static str {
         match self {

@@ -1,5 +1,6 @@
 -- The attempts that a runner makes, and the units in its events.
-use Rattle.std.specs.Prelude.{◌≡◌, ◌∷◌, ◌++◌, [], ℕ, Bool, List, Option, None, Some, option_and_then}
+use Rattle.std.specs.Prelude.{◌≡◌, ◌<◌, ◌^◌, ◌∷◌, ◌++◌, [], ℕ, Bool, List, Option, None, Some, length, map, option_and_then}
+use Rattle.std.specs.List.{range_with_len}
 use Rattle.run_events.specs.Counters.{ScriptUnit, TestUnit, UnitView}
 use Rattle.run_events.specs.Described.{described_result}
 use Rattle.run_events.specs.Attempts.{attempts_of, last_of, view_of}
@@ -59,6 +60,14 @@ pub record AddsStatus (attempt : EndedAttempt) (number : RetryData) (old new : L
   pub stderr : stderr_of status.output ≡ Some attempt.stderr.now
   pub result : status.result ≡ described_result attempt.outcome None
   pub is_slow : status.is_slow ≡ attempt.is_slow
+
+-- statuses of the first attempts of a test, numbered from 1, with this total
+pub record HasStatuses (attempts : List EndedAttempt) (total : ℕ) (statuses : List (ExecuteStatus LiveSpec ChildOutputDescription)) : Type 0 where
+  pub count : length statuses ≡ length attempts
+  pub outputs : map (λ s. s.output) statuses ≡ map left_by attempts
+  pub results : map (λ s. s.result) statuses ≡ map (λ a. described_result a.outcome None) attempts
+  pub slow : map (λ s. s.is_slow) statuses ≡ map (λ a. a.is_slow) attempts
+  pub numbers : length attempts < 2 ^ 32 → map (λ s. s.retry_data) statuses ≡ map (numbered_of total) (range_with_len 1 (length attempts))
 
 -- the captured standard error of the last attempt
 abbrev pub last_stderr : ExecutionStatuses LiveSpec ChildOutputDescription → Option (List ℕ)

@@ -6,10 +6,10 @@ ghost use Rattle.std.specs.List.{filter_map, range_with_len};
 ghost use Rattle.run_events.specs.Counters.{TestUnit, stats_of, unit_view};
 ghost use Rattle.run_events.specs.Described.{described_result};
 ghost use Rattle.run_events.specs.Attempts.{attempts_of, view_of};
-ghost use Rattle.uses.specs.Runner.{last_stderr, left_by, numbered_of, told_name, told_stats, told_unit, view_of_attempts};
+ghost use Rattle.uses.specs.Runner.{HasStatuses, last_stderr, left_by, name_of_kind, numbered_of, stats_of_kind, told_name, told_stats, told_unit, unit_of_kind, view_of_attempts};
 
 use crate::of_run_events::{EndedAttempt, epoch, push_status};
-use run_events::attempts::{ExecutionStatuses, RetryData};
+use run_events::attempts::{ExecuteStatus, ExecutionStatuses, RetryData};
 use run_events::child::LiveSpec;
 use run_events::config::{FlakyResult, JunitFlakyFailStatus, TestInstanceId, TestOutputDisplay};
 use run_events::events::{ReporterEvent, TestEvent, TestEventKind};
@@ -38,20 +38,43 @@ pub fn finished_test(
         → IfOk result (λ test. map (λ s. s.retry_data) (attempts_of test)
         ≡ map (numbered_of (length earlier.now + 1)) (range_with_len 1 (length earlier.now + 1))) }
 {
-    let total_attempts = u32::try_from(earlier.len())
-        .unwrap_or(u32::MAX)
-        .saturating_add(1);
     let mut statuses = Vec::new(alloc);
+    let retry_data = push_statuses(alloc, &mut statuses, earlier, total_after(earlier))?;
+    push_status(alloc, &mut statuses, last, retry_data)?;
+    Ok(ExecutionStatuses::new(statuses, setting))
+}
+
+/// Returns the number of attempts: the earlier ones and the last one.
+fn total_after(earlier: &[EndedAttempt<'_>]) -> u32
+    ensures { length earlier.now + 1 < 2 ^ 32 → result ≡ length earlier.now + 1 }
+{
+    u32::try_from(earlier.len())
+        .unwrap_or(u32::MAX)
+        .saturating_add(1)
+}
+
+/// Adds the statuses of the first attempts of a test. Returns the number of the next attempt.
+fn push_statuses(
+    alloc: Global,
+    statuses: &mut Vec<ExecuteStatus<LiveSpec>>,
+    attempts: &[EndedAttempt<'_>],
+    total_attempts: u32,
+) -> Result<RetryData, AllocError>
+    requires { statuses.old.items ≡ [] }
+    ensures statuses { IfOk result (λ _. HasStatuses attempts.now total_attempts
+        statuses.new.items) }
+    ensures next { IfOk result (λ next. length attempts.now + 1 < 2 ^ 32
+        → next ≡ numbered_of total_attempts (length attempts.now + 1)) }
+{
     let mut retry_data = RetryData {
         attempt: 1,
         total_attempts,
     };
-    for attempt in earlier {
-        push_status(alloc, &mut statuses, *attempt, retry_data)?;
+    for attempt in attempts {
+        push_status(alloc, statuses, *attempt, retry_data)?;
         retry_data.attempt = retry_data.attempt.saturating_add(1);
     }
-    push_status(alloc, &mut statuses, last, retry_data)?;
-    Ok(ExecutionStatuses::new(statuses, setting))
+    Ok(retry_data)
 }
 
 /// Returns the event that a test of this name finished.
@@ -80,6 +103,15 @@ pub fn test_finished(
         current_stats,
         running: 0,
     };
+    event_of(alloc, kind)
+}
+
+/// Returns an event of this kind.
+fn event_of(alloc: Global, kind: TestEventKind<'_>) -> Result<ReporterEvent<'_>, AllocError>
+    ensures unit { IfOk result (λ event. told_unit event ≡ unit_of_kind kind.entry) }
+    ensures name { IfOk result (λ event. told_name event ≡ name_of_kind kind.entry) }
+    ensures stats { IfOk result (λ event. told_stats event ≡ stats_of_kind kind.entry) }
+{
     let event = TestEvent {
         timestamp: epoch(),
         elapsed: Duration::ZERO,

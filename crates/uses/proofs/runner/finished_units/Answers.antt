@@ -1,4 +1,7 @@
-use Rattle.std.proofs.Common.{◌∙◌}
+use Rattle.std.proofs.Common.{◌≡◌, ◌∙◌, map, subst}
+use Rattle.std.proofs.lemmas.List.{take_all}
+use Rattle.std.specs.List.{filter_map}
+use Rattle.run_events.specs.Counters.{unit_view}
 use Rattle.uses.specs.Runner.{told_unit}
 use Rattle.uses.proofs.Lists.{filter_map_more}
 use Rattle.uses.proofs.RunnerLemmas.{lent_more, lent_same}
@@ -14,3 +17,8 @@ loop-event-preserved c =
           (lent_more c.loop-event.units.items w.in-Some.unit _ _ _ c.loop-event.invariant w.in-Some.ensures more)
       | in_default w ↦ rw w.units-is (c.loop-event.invariant ∙ lent_same _ _ _ w.in_default.ensures more)
     ]
+
+pub returns : goal.returns
+returns c =
+    subst (λ seen. map unit_view c.loop-event.units.items ≡ filter_map told_unit seen)
+    (take_all c.loop-event.event-index c.args.events.now c.loop-event-test.false) c.loop-event.invariant
