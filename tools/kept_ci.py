@@ -4,10 +4,12 @@ The current folder is a copy of the repository ORIGIN without what was built the
 crate from nothing and keeps no proof, and tries each must-fail edit by a check of its own. Here each crate except
 programs has a new folder, out/incremental, in which the prover keeps what it proves. So the crate is proved from nothing
 as well. A library is built with its proofs, and a verdict may say that it was reached over such a folder. The edits of a
-crate are tried by tools/must-fail over that folder, while other crates are proved. What a run passed is kept for later
-runs of this tool, and not for a plain `rt ci`. Each crate is proved by one process, and as many crates at the same time
-as there are processors and memory. All else is as in `rt ci`: the words that it refuses, contracts that no call can
-meet, both compilers, and the runs of programs.
+crate are tried by tools/must-fail over that folder, while other crates are proved. Each crate is proved by one process,
+and as many crates at the same time as there are processors and memory. All else is as in `rt ci`: the words that it
+refuses, contracts that no call can meet, both compilers, and the runs of programs.
+
+There are two forms of `rt`. One of them has a store of what earlier runs passed, and takes `--anew`. What this tool passes
+is then kept there for later runs of this tool, and not for a plain `rt ci`. With the other form each run proves all.
 """
 
 import contextlib
@@ -100,10 +102,8 @@ def main(origin, *words):
     os.environ.setdefault("RT_JOBS", str(compiler.lanes()))
     compiler.PROVED = "rlib"
     rt, must_fail = loaded(f"{compiler.kit()}/bin/rt"), loaded(f"{compiler.TOP}/tools/must-fail")
-    prove, own_sum = rt.Crate.prove, rt.own_sum
+    prove = rt.Crate.prove
     rt.rtlib.VERDICT = Verdict(rt.rtlib.VERDICT)
-    # A plain `rt ci` takes no library that was built here, and none that it built is taken here.
-    rt.own_sum = lambda crate: own_sum(crate) + KEPT
     # `rt` takes no file with another name for an edit, and that fails nothing.
     rt.edits_of = lambda crate: (must_fail.paths_of(crate.name), [])
 
@@ -127,8 +127,19 @@ def main(origin, *words):
         tasks[crate.name, "edits"] = (waits, 0, rt.OVER * rt.need(crate), try_all)
         return lambda _given: [edits.results[name] for name in edits.names], lambda: edits.earlier
 
+    def try_each(crate, paths, _flags):
+        results = {name: result for name, *result in must_fail.results_of(crate.name, map(os.path.basename, paths))}
+        return [results[os.path.basename(path)] for path in paths]
+
     end_checks_on_signals(must_fail)
-    rt.Crate.prove, rt.add_edits = prove_and_keep, add_edits
+    rt.Crate.prove = prove_and_keep
+    if not hasattr(rt, "own_sum"):
+        rt.must_fail_all = try_each
+        return rt.main(["ci"])
+    # A plain `rt ci` takes no library that was built here, and none that it built is taken here.
+    own_sum = rt.own_sum
+    rt.own_sum = lambda crate: own_sum(crate) + KEPT
+    rt.add_edits = add_edits
     return rt.main(["ci", *words])
 
 
