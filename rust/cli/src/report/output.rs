@@ -6,6 +6,7 @@ use crate::report::options::Options;
 use crate::report::style::RESET;
 use crate::report_templates::{FAILED, JUNIT, MARKDOWN, PAGE};
 use crate::report_text::{Kind, Property, ReportText, Style};
+use crate::template::shown::is_escaped;
 use crate::template::{Part, Value, parse_template, render};
 use serde::Serialize;
 use std::borrow::Cow;
@@ -241,13 +242,14 @@ impl Document {
     }
 }
 
-/// A line of JSON, in which no text begins a command of a CI system.
+/// A line of JSON, in which no text controls a terminal or begins a command of a CI system.
 pub struct Json {
     line: String,
 }
 
 impl Json {
-    /// Returns a value as JSON. A `#` that would begin a command is the escape `\u0023`.
+    /// Returns a value as JSON. These are escapes such as `\u0023`: a `#` that would begin a command, control
+    /// characters, and characters that change the direction of writing.
     pub(crate) fn of(value: &impl Serialize) -> Json {
         let json = match serde_json::to_string(value) {
             Ok(json) => json,
@@ -255,14 +257,17 @@ impl Json {
         };
         let mut line = String::with_capacity(json.len() + 1);
         let mut rest = json.as_str();
-        while let Some((before, after)) = rest.split_once('#') {
-            line.push_str(before);
-            line.push_str(if escape::completes_command(after) {
-                "\\u0023"
+        while let Some((at, c)) = rest
+            .char_indices()
+            .find(|&(_, c)| c == '#' || is_escaped(c))
+        {
+            line.push_str(&rest[..at]);
+            rest = &rest[at + c.len_utf8()..];
+            if is_escaped(c) || escape::completes_command(rest) {
+                line.push_str(&format!("\\u{:04x}", u32::from(c)));
             } else {
-                "#"
-            });
-            rest = after;
+                line.push(c);
+            }
         }
         line.push_str(rest);
         line.push('\n');

@@ -3,7 +3,7 @@
 
 use crate::properties::facts::{
     Facts, MARKS, Suite, attempts_of, crash_end, failure_of, outcome, own_name, problem_line,
-    stopped_lines, suite_of_problem, without_colours, without_returns,
+    stopped_lines, suite_of_problem, turns_writing, without_colours, without_returns,
 };
 use deodarsieve::RunStats;
 use deodarsieve_cli::report::options::{Options, OutputDisplay};
@@ -271,6 +271,8 @@ fn list<'a>(object: &'a mut Value, name: &str) -> &'a mut Vec<Value> {
 pub fn check(facts: &Facts, json: &str, options: Options) -> Shown {
     assert_eq!(json.find('\n'), Some(json.len() - 1), "it is one line");
     assert!(!MARKS.iter().any(|mark| json.contains(mark)), "{json}");
+    let is_hidden = |c: char| c != '\n' && c.is_control() || turns_writing(c);
+    assert!(!json.contains(is_hidden), "{json:?}");
     let mut value: Value = serde_json::from_str(json).expect("it is JSON");
     // The suites have the failed tests in another order than the run.
     let mut places = facts.suites().into_iter().flat_map(|suite| suite.notes);
