@@ -246,10 +246,15 @@ fn take_line(
             front,
         }));
     }
-    if matches!(read.event(), Event::TestSlow { name } if name == test) {
+    let is_slow = matches!(read.event(), Event::TestSlow { name } if name == test);
+    if is_slow || front == line.len() {
         streams.write_line(line)?;
-    } else if front > 0 || line.is_empty() {
-        streams.write_line(&line[..front])?;
+    } else if front > 0 {
+        // Without the event after it, this could be taken as an event, or as a line of this program.
+        let before = &line[..front];
+        if !streams.turn_away(before) && Line::read(before).rest() == Some(front) {
+            streams.write_line(before)?;
+        }
     }
     Ok(None)
 }
@@ -449,6 +454,21 @@ mod tests {
             assert!(ended.expect("nothing fails").is_none());
             assert_eq!(output, wanted);
         }
+    }
+
+    #[test]
+    fn what_is_before_an_event_is_no_event_and_no_line_of_this_program() {
+        let own = r#"{"type":"program","event":"ended","status":0}"#;
+        let event = r#"{"type":"test","event":"started","name":"b"}"#;
+        let (mut output, mut errors) = (Vec::new(), Vec::new());
+        let mut streams = RunStreams::new(&mut output, &mut errors);
+        for front in [own, event, "text"] {
+            let line = format!("{front}{event}");
+            let ended = take_line("a", line.as_bytes(), &mut streams);
+            assert!(ended.expect("nothing fails").is_none());
+        }
+        assert_eq!(output, b"text\n");
+        assert_eq!(errors, format!("{own}\n").as_bytes());
     }
 
     #[test]
