@@ -515,16 +515,19 @@ fn many_errors_of_the_compiler_take_time_in_proportion() {
              \"code\":null,\"spans\":[]}}}}\n"
         )
     };
-    let errors: String = (0..20_000).map(error).collect();
-    let start = std::time::Instant::now();
-    let text = report("text", &[STARTED, &errors, FAILED]);
-    assert!(
-        text.contains("20000 errors"),
-        "{}",
-        &text[text.len() - 200..]
-    );
-    // Each error compared with each other one takes ten times as long.
-    assert!(start.elapsed().as_secs() < 10);
+    let time_of = |count: u32| {
+        let errors: String = (0..count).map(error).collect();
+        let start = std::time::Instant::now();
+        let text = report("text", &[STARTED, &errors, FAILED]);
+        let wanted = format!("{count} errors");
+        assert!(text.contains(&wanted), "{}", &text[text.len() - 200..]);
+        start.elapsed()
+    };
+    // On a busy machine a single time says little.
+    let best_of = |count| (0..3).map(|_| time_of(count)).min();
+    let (few, many) = (best_of(4_000), best_of(16_000));
+    // If each error were compared with each other one, four times as many would take twelve times as long.
+    assert!(many < few.map(|few| 8 * few), "{few:?} and {many:?}");
 }
 
 #[test]
