@@ -12,13 +12,8 @@
 //!         × (IsTrue success → IsInOrder (run_settings 60000000 []) (flat_map (λ line. line) events ∷ []))) }
 //! {
 //!     success_is_in_order();
-//!     let mut run = TestRun::new(alloc, 60_000_000);
-//!     for bytes in lines {
-//!         let line = Line::read(alloc, bytes)?;
-//!         run.on_line(alloc, &line)?;
-//!     }
-//!     let finished = run.finish(alloc, None, false)?;
-//!     Ok(finished.status == 0)
+//!     let end = end_of_lines(alloc, lines)?;
+//!     Ok(end.outcome == RunOutcome::Success)
 //! }
 //! ```
 #![tactic(auto)]

@@ -57,11 +57,7 @@ fn is_failure(reason: CancelReason) -> bool {
 
 #[test]
 fn reasons_that_are_failures() {
-    let found = names_between(
-        RUN_DIGEST,
-        "The cancel reasons that are failures are ",
-        ". ",
-    );
+    let found = names_between(RUN_DIGEST, "These reasons are failures: ", ". ");
     assert_named(&found, |reason| word_of(Some(reason)), is_failure);
     let found = names_between(HEADER, "If the cancel reason is not one of ", ", the run");
     assert_named(&found, constant_of, is_failure);
