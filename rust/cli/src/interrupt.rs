@@ -17,8 +17,6 @@ const DURATION: Duration = Duration::from_millis(200);
 /// Whether the user or the system asked the program to end.
 #[derive(Debug)]
 pub struct Interrupt {
-    has_come: Arc<AtomicBool>,
-
     /// True if Ctrl-C came.
     is_interrupted: Arc<AtomicBool>,
 
@@ -86,25 +84,24 @@ impl Interrupt {
     /// Fails if the system refuses a handler, a pipe or a thread.
     pub fn catch_first() -> io::Result<Interrupt> {
         let interrupt = Interrupt {
-            has_come: Arc::default(),
             is_interrupted: Arc::default(),
             is_terminated: Arc::default(),
             is_sent_on: AtomicBool::default(),
             next: Arc::default(),
         };
-        // The actions for a signal run in the order in which they are registered.
-        for (signal, is_this) in [
+        let mut caught = Vec::new();
+        for (signal, has_come) in [
             (SIGINT, &interrupt.is_interrupted),
             (SIGTERM, &interrupt.is_terminated),
         ] {
-            if is_ignored(signal) {
-                continue;
+            if !is_ignored(signal) {
+                // From here on the signal does not end the program, so it is noted from here on.
+                register(signal, Arc::clone(has_come))?;
+                register_conditional_default(signal, Arc::clone(&interrupt.next.ends))?;
+                caught.push(Arc::clone(has_come));
             }
-            register_conditional_default(signal, Arc::clone(&interrupt.next.ends))?;
-            register(signal, Arc::clone(is_this))?;
-            register(signal, Arc::clone(&interrupt.has_come))?;
         }
-        let wait_for_first = waiter(Arc::clone(&interrupt.has_come))?;
+        let wait_for_first = waiter(caught)?;
         let next = Arc::clone(&interrupt.next);
         // The main thread may be blocked by a device when the signal is over.
         let note_end = move || {
@@ -123,7 +120,7 @@ impl Interrupt {
 
     /// Returns true if the first signal has come.
     pub fn has_come(&self) -> bool {
-        self.has_come.load(Ordering::SeqCst)
+        self.reason().is_some()
     }
 
     /// Returns why the run is cancelled, if a signal has come. If both came, this is the more severe reason, Ctrl-C.
@@ -152,9 +149,15 @@ impl Interrupt {
     }
 }
 
-/// Returns a function that returns when the first signal has come.
+/// Returns true if one of these signals has come.
+fn have_come(caught: &[Arc<AtomicBool>]) -> bool {
+    caught.iter().any(|signal| signal.load(Ordering::SeqCst))
+}
+
+/// Returns a function that returns when one of these signals has come. A command starts with the default action of both
+/// signals, even if this program ignores them.
 #[cfg(unix)]
-fn waiter(_has_come: Arc<AtomicBool>) -> io::Result<impl FnOnce() + Send + 'static> {
+fn waiter(caught: Vec<Arc<AtomicBool>>) -> io::Result<impl FnOnce() + Send + 'static> {
     use std::io::Read;
     use std::os::unix::net::UnixStream;
     let (mut woken, waker) = UnixStream::pair()?;
@@ -162,16 +165,19 @@ fn waiter(_has_come: Arc<AtomicBool>) -> io::Result<impl FnOnce() + Send + 'stat
         signal_hook::low_level::pipe::register(signal, waker.try_clone()?)?;
     }
     Ok(move || {
-        // The handlers keep the other end open, so this returns after a signal.
-        let _ = woken.read(&mut [0]);
+        // A signal that came before the pipe was there has woken nobody, and one that is ignored wakes this, too. The
+        // handlers keep the other end open.
+        while !have_come(&caught) {
+            let _ = woken.read(&mut [0]);
+        }
     })
 }
 
-/// Returns a function that returns when the first signal has come.
+/// Returns a function that returns when one of these signals has come.
 #[cfg(not(unix))]
-fn waiter(has_come: Arc<AtomicBool>) -> io::Result<impl FnOnce() + Send + 'static> {
+fn waiter(caught: Vec<Arc<AtomicBool>>) -> io::Result<impl FnOnce() + Send + 'static> {
     Ok(move || {
-        while !has_come.load(Ordering::SeqCst) {
+        while !have_come(&caught) {
             thread::sleep(DURATION);
         }
     })

@@ -7,7 +7,7 @@ use crate::common::{
 use std::fs::{self, OpenOptions};
 use std::io::{self, Read, Write};
 use std::os::unix::process::ExitStatusExt;
-use std::process::{Child, ChildStderr, Command, ExitStatus};
+use std::process::{Child, ChildStderr, Command, ExitStatus, Stdio};
 use std::thread;
 use std::time::Duration;
 
@@ -216,20 +216,54 @@ fn read_lines(mut pipe: ChildStderr, text: &str) -> (String, ChildStderr) {
 fn the_user_is_told_before_any_input() {
     let running = start(&["--progress", "always"]);
     let file = format!("/proc/{}/status", running.child.id());
-    let catches = move || {
+    // The second thread starts when all handlers are set.
+    let threads = move || {
         let status = fs::read_to_string(&file).expect("the program runs");
-        let line = status.lines().find_map(|line| line.strip_prefix("SigCgt:"));
-        let signals = line.and_then(|line| u64::from_str_radix(line.trim(), 16).ok());
-        signals.is_some_and(|signals| signals & (1 << 1) != 0)
+        let line = status
+            .lines()
+            .find_map(|line| line.strip_prefix("Threads:"));
+        line.and_then(|line| line.trim().parse::<u32>().ok())
     };
-    soon("the handler of SIGINT", move || {
-        while !catches() {
+    soon("the second thread", move || {
+        while threads().is_none_or(|threads| threads < 2) {
             std::thread::yield_now();
         }
     });
     send("INT", &running.child);
     let stderr = wait_for(running.stderr, STILL_READING);
     drop((running.stdin, stderr));
+    assert_eq!(end_of(running.child).code(), Some(1));
+}
+
+#[test]
+fn a_signal_that_is_ignored_is_no_first_signal() {
+    let mut command = Command::new("sh");
+    command
+        .args([
+            "-c",
+            r#"trap '' INT; exec "$0""#,
+            common::path_of("test-report"),
+        ])
+        .env_remove("GITHUB_ACTIONS")
+        .stdin(Stdio::piped())
+        .stdout(Stdio::piped())
+        .stderr(Stdio::piped());
+    let mut running = started(&mut command);
+    running
+        .stdin
+        .write_all(FAILED.as_bytes())
+        .expect("the program reads");
+    let (first, stdout) = read_until(running.stdout, "    Error: no such currency\n");
+    send("INT", &running.child);
+    wait_for_end_of_first();
+    send("TERM", &running.child);
+    running
+        .stdin
+        .write_all(LATER.as_bytes())
+        .expect("the program still reads");
+    drop(running.stdin);
+    let (rest, _) = read_until(stdout, "outcome failed\n");
+    assert_eq!([first, rest].concat(), report_after("TERM"));
     assert_eq!(end_of(running.child).code(), Some(1));
 }
 
