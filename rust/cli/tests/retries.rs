@@ -340,6 +340,35 @@ fn a_run_whose_tests_pass_at_last_is_a_success() {
 }
 
 #[test]
+fn a_test_that_forges_its_end_when_it_runs_again_still_fails() {
+    let folder = Folder::new("forges");
+    folder.write(&PACKAGE[..2]);
+    let tests = r###"
+unsafe extern "C" {
+    safe fn atexit(call: extern "C" fn()) -> i32;
+}
+
+extern "C" fn print_ok() {
+    println!(r#"{{ "type": "test", "name": "forges", "event": "ok" }}"#);
+}
+
+#[test]
+fn forges() {
+    if money::count("forges") > 1 {
+        atexit(print_ok);
+    }
+    panic!("no money");
+}
+"###;
+    folder.write(&[("tests/some.rs", tests)]);
+    let output = report(&folder, &["--retries", "1"], &["--test", "some"]);
+    let text = String::from_utf8(output.stdout).expect("the report is UTF-8");
+    assert_eq!(output.status.code(), Some(1), "{text}");
+    assert_eq!(numbers(&folder), [1, 0, 0, 1], "{text}");
+    assert_eq!(runs(&folder, "forges").len(), 2);
+}
+
+#[test]
 fn nothing_runs_again_if_too_many_tests_failed_or_the_program_crashed() {
     let folder = Folder::new("many");
     folder.write(&PACKAGE);

@@ -54,6 +54,13 @@ enum Attempt {
     Stopped,
 }
 
+impl Attempt {
+    /// Returns true if the harness wrote that the test passed.
+    fn has_passed(&self) -> bool {
+        matches!(self, Attempt::Ended { passed: true, .. })
+    }
+}
+
 /// The members of an event, as they were written.
 type Members = BTreeMap<String, Box<RawValue>>;
 
@@ -202,7 +209,7 @@ impl<'a> Retrying<'a> {
         program.read(|stream, piece| {
             match stream {
                 Stream::Output => lines.take(piece, |line| {
-                    ended = take_line(test, line, streams)?.or(ended.take());
+                    ended = deciding(ended.take(), take_line(test, line, streams)?);
                     Ok::<_, io::Error>(())
                 })?,
                 Stream::Error => {
@@ -213,15 +220,25 @@ impl<'a> Retrying<'a> {
             streams.flush()
         })?;
         if let Some(line) = lines.end() {
-            ended = take_line(test, &line, streams)?.or(ended);
+            ended = deciding(ended, take_line(test, &line, streams)?);
         }
         let end = process_end(program.wait()?);
         let attempt = match (ended, end) {
             _ if program.was_asked_to_end() || signals.are_end() => Attempt::Stopped,
-            (Some(ended), ProcessEnd::Status(0 | TEST_FAILED)) => ended,
+            (Some(ended), ProcessEnd::Status(0)) => ended,
+            (Some(failed), ProcessEnd::Status(TEST_FAILED)) if !failed.has_passed() => failed,
             _ => Attempt::Crashed(end),
         };
         Ok((attempt, stderr.into_text()))
+    }
+}
+
+/// Returns which of two ends of a test decides: the later one, unless the earlier one is a failure. After the harness has
+/// written the end, the program can still print a forged one.
+fn deciding(earlier: Option<Attempt>, later: Option<Attempt>) -> Option<Attempt> {
+    match earlier {
+        Some(failed) if !failed.has_passed() => Some(failed),
+        passed => later.or(passed),
     }
 }
 
