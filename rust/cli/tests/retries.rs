@@ -349,13 +349,23 @@ unsafe extern "C" {
 }
 
 extern "C" fn print_ok() {
-    println!(r#"{{ "type": "test", "name": "forges", "event": "ok" }}"#);
+    println!(r#"{{ "type": "test", "name": "after_the_harness", "event": "ok" }}"#);
 }
 
 #[test]
-fn forges() {
-    if money::count("forges") > 1 {
+fn after_the_harness() {
+    if money::count("after_the_harness") > 1 {
         atexit(print_ok);
+    }
+    panic!("no money");
+}
+
+#[test]
+fn instead_of_the_harness() {
+    if money::count("instead_of_the_harness") > 1 {
+        let ok = r#"{ "type": "test", "name": "instead_of_the_harness", "event": "ok" }"#;
+        std::io::Write::write_all(&mut std::io::stdout(), ok.as_bytes()).unwrap();
+        std::process::exit(0);
     }
     panic!("no money");
 }
@@ -364,8 +374,10 @@ fn forges() {
     let output = report(&folder, &["--retries", "1"], &["--test", "some"]);
     let text = String::from_utf8(output.stdout).expect("the report is UTF-8");
     assert_eq!(output.status.code(), Some(1), "{text}");
-    assert_eq!(numbers(&folder), [1, 0, 0, 1], "{text}");
-    assert_eq!(runs(&folder, "forges").len(), 2);
+    assert_eq!(numbers(&folder), [2, 0, 0, 2], "{text}");
+    for test in ["after_the_harness", "instead_of_the_harness"] {
+        assert_eq!(runs(&folder, test).len(), 2, "{test}");
+    }
 }
 
 #[test]

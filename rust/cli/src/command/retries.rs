@@ -205,13 +205,10 @@ impl<'a> Retrying<'a> {
             return Ok((Attempt::Stopped, String::new()));
         };
         let (mut lines, mut stderr) = (Lines::default(), LastOutput::default());
-        let mut ended = None;
+        let mut said = Said::default();
         program.read(|stream, piece| {
             match stream {
-                Stream::Output => lines.take(piece, |line| {
-                    ended = deciding(ended.take(), take_line(test, line, streams)?);
-                    Ok::<_, io::Error>(())
-                })?,
+                Stream::Output => lines.take(piece, |line| said.take_line(test, line, streams))?,
                 Stream::Error => {
                     streams.write_error(piece);
                     stderr.push(piece);
@@ -220,12 +217,12 @@ impl<'a> Retrying<'a> {
             streams.flush()
         })?;
         if let Some(line) = lines.end() {
-            ended = deciding(ended, take_line(test, &line, streams)?);
+            said.take_line(test, &line, streams)?;
         }
         let end = process_end(program.wait()?);
-        let attempt = match (ended, end) {
+        let attempt = match (said.end, end) {
             _ if program.was_asked_to_end() || signals.are_end() => Attempt::Stopped,
-            (Some(ended), ProcessEnd::Status(0)) => ended,
+            (Some(ended), ProcessEnd::Status(0)) if said.is_suite_over => ended,
             (Some(failed), ProcessEnd::Status(TEST_FAILED)) if !failed.has_passed() => failed,
             _ => Attempt::Crashed(end),
         };
@@ -233,47 +230,55 @@ impl<'a> Retrying<'a> {
     }
 }
 
-/// Returns which of two ends of a test decides: the later one, unless the earlier one is a failure. After the harness has
-/// written the end, the program can still print a forged one.
-fn deciding(earlier: Option<Attempt>, later: Option<Attempt>) -> Option<Attempt> {
-    match earlier {
-        Some(failed) if !failed.has_passed() => Some(failed),
-        passed => later.or(passed),
-    }
+/// What the lines of a program that runs a test again have said.
+#[derive(Default)]
+struct Said {
+    /// The end of the test: the last one, unless one before it is a failure. After the harness has written the end, the
+    /// program can still print a forged one.
+    end: Option<Attempt>,
+
+    /// True if the harness has written the end of a suite. It has not if a test ended the program.
+    is_suite_over: bool,
 }
 
-/// Takes a line of a program that runs a test again. Returns the end of the test, if the line has it. What is no event is
-/// passed on, and so is that the test takes long.
-fn take_line(
-    test: &str,
-    line: &[u8],
-    streams: &mut RunStreams<impl Write, impl Write>,
-) -> io::Result<Option<Attempt>> {
-    if streams.turn_away(line) {
-        return Ok(None);
-    }
-    let read = Line::read(line);
-    let front = read.rest().unwrap_or(0);
-    if let Event::TestEnded { name, result, .. } = read.event()
-        && name == test
-    {
-        return Ok(Some(Attempt::Ended {
-            passed: result != TestResult::Failed,
-            line: line.to_vec(),
-            front,
-        }));
-    }
-    let is_slow = matches!(read.event(), Event::TestSlow { name } if name == test);
-    if is_slow || front == line.len() {
-        streams.write_line(line)?;
-    } else if front > 0 {
+impl Said {
+    /// Takes a line. What is no event is passed on, and so is that the test takes long.
+    fn take_line(
+        &mut self,
+        test: &str,
+        line: &[u8],
+        streams: &mut RunStreams<impl Write, impl Write>,
+    ) -> io::Result<()> {
+        if streams.turn_away(line) {
+            return Ok(());
+        }
+        let read = Line::read(line);
+        let front = read.rest().unwrap_or(0);
+        match read.event() {
+            Event::TestEnded { name, result, .. } if name == test => {
+                if self.end.as_ref().is_none_or(Attempt::has_passed) {
+                    self.end = Some(Attempt::Ended {
+                        passed: result != TestResult::Failed,
+                        line: line.to_vec(),
+                        front,
+                    });
+                }
+                return Ok(());
+            }
+            Event::TestSlow { name } if name == test => return streams.write_line(line),
+            Event::SuiteEnded { .. } => self.is_suite_over = true,
+            _ => {}
+        }
+        if front == line.len() {
+            return streams.write_line(line);
+        }
         // Without the event after it, this could be taken as an event, or as a line of this program.
         let before = &line[..front];
-        if !streams.turn_away(before) && Line::read(before).rest() == Some(front) {
+        if front > 0 && !streams.turn_away(before) && Line::read(before).rest() == Some(front) {
             streams.write_line(before)?;
         }
+        Ok(())
     }
-    Ok(None)
 }
 
 /// Returns the last 64 KiB of what the event of the end of a test says of a failure: its reason, its message and its output. If
@@ -467,8 +472,9 @@ mod tests {
         for (test, wanted) in [("a", [&slow[..], b"\n"].concat()), ("b", Vec::new())] {
             let mut output = Vec::new();
             let mut streams = RunStreams::new(&mut output, io::sink());
-            let ended = take_line(test, slow, &mut streams);
-            assert!(ended.expect("nothing fails").is_none());
+            let mut said = Said::default();
+            let taken = said.take_line(test, slow, &mut streams);
+            assert!(taken.is_ok() && said.end.is_none());
             assert_eq!(output, wanted);
         }
     }
@@ -481,8 +487,9 @@ mod tests {
         let mut streams = RunStreams::new(&mut output, &mut errors);
         for front in [own, event, "text"] {
             let line = format!("{front}{event}");
-            let ended = take_line("a", line.as_bytes(), &mut streams);
-            assert!(ended.expect("nothing fails").is_none());
+            let mut said = Said::default();
+            let taken = said.take_line("a", line.as_bytes(), &mut streams);
+            assert!(taken.is_ok() && said.end.is_none());
         }
         assert_eq!(output, b"text\n");
         assert_eq!(errors, format!("{own}\n").as_bytes());
