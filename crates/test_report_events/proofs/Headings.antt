@@ -16,7 +16,9 @@ use Rattle.std.specs.Str.{NoCharPasses}
 use Rattle.std.specs.Str.Pattern.{RFindsBy, RFindsChar, RFindsText, SplitsAroundMatch}
 use Rattle.test_report_events.proofs.LastCut.{Lacks, cut-same, lacks-later}
 use Rattle.test_report_events.specs.Cargo.{CargoSays, IsBinary, IsCommand, IsFirstProgram, IsHashed, IsHeading, IsProgram, IsRunning, IsTarget, failure_of, file_name}
+use Rattle.test_report_events.specs.Content.{path_of, suite_of}
 use Rattle.test_report_events.specs.Event.{CargoFails, EventView, HeadingLine}
+use Rattle.test_report_events.specs.declared.cargo.Heading.{Heading}
 use Rattle.test_report_events.specs.declared.event.CargoFailure.{CargoFailure}
 
 -- a text without a character has no byte of it
@@ -65,14 +67,19 @@ one-hashed text a b h k = (cut-same 45 a b h.hash k.hash (sym h.is ∙ k.is) (ha
 pub hashed_none : (file : List ℕ) → RFindsChar 45 file None → (name : List ℕ) → ¬ IsHashed file name
 hashed_none file none name h = lacks-later 45 name h.hash (subst (Lacks 45) h.is (λ i inside. NoCharPasses-char 45 file i none (omega arith) inside))
 
-pub hashed_other : (file front back : List ℕ) → SplitsAroundMatch (RFindsChar 45) file front back
-    → ¬ ((length back ≡ 16) × AllPass is_ascii_hexdigit back) → (name : List ℕ) → ¬ IsHashed file name
-hashed_other file front back h other name k =
-    let cut : file ≡ front ++ 45 ∷ back = rw (h.3, h.4) (
-    sym (take-append-drop h.0 file) ∙ ap (λ rest. take h.0 file ++ rest) (drop_at_char 45 file h.0 h.1 h.2.1 (omega arith))) in
-    let none : Lacks 45 back = rw h.4 (λ i inside. NoCharPasses-char 45 (drop h.1 file) i h.2.0 (omega arith) inside) in
-    let same = cut-same 45 front name back k.hash (sym cut ∙ k.is) none (hash-lacks k.hash k.digits) in
-    other (rw same.1 (k.size, k.digits))
+module _ (file front back : List ℕ) (h : SplitsAroundMatch (RFindsChar 45) file front back) where
+  cut-around : file ≡ front ++ 45 ∷ back
+  cut-around = rw (h.3, h.4)
+      (sym (take-append-drop h.0 file) ∙ ap (λ rest. take h.0 file ++ rest) (drop_at_char 45 file h.0 h.1 h.2.1 (omega arith)))
+
+  pub hashed_found : (length back ≡ 16) × AllPass is_ascii_hexdigit back → IsHashed file front
+  hashed_found hash = record { hash = back; size = hash.0; digits = hash.1; is = cut-around }
+
+  pub hashed_other : ¬ ((length back ≡ 16) × AllPass is_ascii_hexdigit back) → (name : List ℕ) → ¬ IsHashed file name
+  hashed_other other name k =
+      let none : Lacks 45 back = rw h.4 (λ i inside. NoCharPasses-char 45 (drop h.1 file) i h.2.0 (omega arith) inside) in
+      let same = cut-same 45 front name back k.hash (sym cut-around ∙ k.is) none (hash-lacks k.hash k.digits) in
+      other (rw same.1 (k.size, k.digits))
 
 -- a line does not begin in both ways
 doc-or-running : (line name text : List ℕ) → line ≡ codes "Doc-tests " ++ name → line ≡ codes "Running " ++ text → ⊥
@@ -104,30 +111,43 @@ split_around text front back h = record {
       h.2.0 (h.1 + length x) (omega (arith, h.2.1.ends)) (omega (arith, h.7)) y (later ∙ (ap (drop (length x)) (sym h.4) ∙ front_rest back x _ e));
 }
 
-pub target_none : (text : List ℕ) → RFindsText (codes " (") text None → (target path : List ℕ) → ¬ IsTarget text target path
-target_none text none target path h = none (length target) (front_fits text target _ h.is) (path ++ codes ")") (front_rest text target _ h.is)
-
-module _ (text front back : List ℕ) (split : IsSplit text front back) where
-  target-is : (target path : List ℕ) → IsTarget text target path → (front ≡ target) × (back ≡ path ++ codes ")")
-  target-is target path h = target-same front target back (path ++ codes ")") (sym split.is ∙ h.is) split.bare h.last
-
-  pub path_none : ((path : List ℕ) → back ≢ path ++ codes ")") → (target path : List ℕ) → ¬ IsTarget text target path
-  path_none none target path h = none path (target-is target path h).1
-
-  pub front_empty : length front ≡ 0 → (target path : List ℕ) → ¬ IsTarget text target path
-  front_empty empty target path h = omega (arith, h.some, ap length (target-is target path h).0)
-
-  pub cut_found : (path : List ℕ) → 0 < length front → back ≡ path ++ codes ")" → IsTarget text front path
-  cut_found path some e = record {
-    some = some;
-    is = split.is ∙ ap (λ b. front ++ (codes " (" ++ b)) e;
-    last = λ x y later. split.bare x y (e ∙ later);
-  }
-
 one-target : (text a b p q : List ℕ) → IsTarget text a p → IsTarget text b q → (a ≡ b) × (p ≡ q)
 one-target text a b p q h k =
-    let same = target-is text a (p ++ codes ")") (record { is = h.is; bare = h.last }) b q k in
+    let same = target-same a b (p ++ codes ")") (q ++ codes ")") (sym h.is ∙ k.is) h.last k.last in
     (same.0, append_cancel_right p q (codes ")") same.1)
+
+bare-closed : (text front back : List ℕ) → Bare text → text ++ 41 ∷ [] ≡ front ++ 32 ∷ 40 ∷ back → ⊥
+bare-closed [] [] back bare e = let h : ◌≡◌ {A = ℕ} 41 32 = cc in omega (arith, h)
+bare-closed [] (x ∷ []) back bare e = cc
+bare-closed [] (x ∷ y ∷ front) back bare e = cc
+bare-closed (a ∷ []) [] back bare e = let h : ◌≡◌ {A = ℕ} 41 40 = cc in omega (arith, h)
+bare-closed (a ∷ b ∷ text) [] back bare e = bare [] text cc
+bare-closed (a ∷ text) (x ∷ front) back bare e = bare-closed text front back (λ f g h. bare (a ∷ f) g (ap (λ t. a ∷ t) h)) cc
+
+-- a text that ends with a parenthesis
+module _ (text stem : List ℕ) (closed : text ≡ stem ++ codes ")") where
+  stem-is : (target path : List ℕ) → IsTarget text target path → IsSplit stem target path
+  stem-is target path h = record {
+    is = append_cancel_right stem (target ++ (codes " (" ++ path)) (codes ")")
+        (sym closed ∙ (h.is ∙ sym (append_assoc target (codes " (" ++ path) (codes ")"))));
+    bare = λ f g e. h.last f (g ++ codes ")") (ap (λ p. p ++ codes ")") e ∙ append_assoc f (codes " (" ++ g) (codes ")"));
+  }
+
+  pub not_cut : RFindsText (codes " (") stem None → (target path : List ℕ) → ¬ IsTarget text target path
+  not_cut none target path h =
+      let is = (stem-is target path h).is in none (length target) (front_fits stem target _ is) path (front_rest stem target _ is)
+
+  pub front_empty : (front back : List ℕ) → IsSplit stem front back → length front ≡ 0 → (target path : List ℕ) → ¬ IsTarget text target path
+  front_empty front back split empty target path h =
+      let k = stem-is target path h in
+      omega (arith, h.some, ap length (target-same front target back path (sym split.is ∙ k.is) split.bare k.bare).0)
+
+  pub cut_found : (target path : List ℕ) → IsSplit stem target path → 0 < length target → IsTarget text target path
+  cut_found target path split some = record {
+    some = some;
+    is = closed ∙ (ap (λ t. t ++ codes ")") split.is ∙ append_assoc target (codes " (" ++ path) (codes ")"));
+    last = λ front back. bare-closed path front back split.bare;
+  }
 
 -- what comes after `Running `, as a target
 module _ (text : List ℕ) where
@@ -136,6 +156,14 @@ module _ (text : List ℕ) where
 
   cut-of : (suite path : List ℕ) (h : IsRunning Line suite path) → IsTarget text h.target path
   cut-of suite path h = subst (λ t. IsTarget t h.target path) (append_cancel_left (codes "Running ") h.text text (sym h.is)) h.cut
+
+  pub no_target : ((target path : List ℕ) → ¬ IsTarget text target path) → (suite path : List ℕ) → ¬ IsRunning Line suite path
+  no_target none suite path h = none h.target path (cut-of suite path h)
+
+  pub no_parenthesis : ((stem : List ℕ) → text ≢ stem ++ codes ")") → (suite path : List ℕ) → ¬ IsRunning Line suite path
+  no_parenthesis none suite path h =
+      let cut = cut-of suite path h in
+      none (h.target ++ (codes " (" ++ path)) (cut.is ∙ sym (append_assoc h.target (codes " (" ++ path) (codes ")")))
 
   pub no_binary : (target path : List ℕ) → IsTarget text target path → ((name : List ℕ) → ¬ IsBinary path name)
       → (suite other : List ℕ) → ¬ IsRunning Line suite other
@@ -152,12 +180,16 @@ module _ (text : List ℕ) where
   pub no_end : (rest : List ℕ) → text ≡ 96 ∷ rest → ((front : List ℕ) → rest ≢ front ++ codes "`") → (suite path : List ℕ) → ¬ IsCommand Line suite path
   no_end rest is none suite path h = let both = sym is ∙ words-of suite path h in none h.words cc
 
-  pub no_program : (words : List ℕ) → text ≡ 96 ∷ (words ++ codes "`") → ((path name : List ℕ) → ¬ IsFirstProgram words path name)
-      → (suite path : List ℕ) → ¬ IsCommand Line suite path
-  no_program words is none suite path h =
+  pub command_of : (words : List ℕ) → text ≡ 96 ∷ (words ++ codes "`") → (found : Option Heading)
+      → MatchOption found ((path name : List ℕ) → ¬ IsFirstProgram words path name)
+      (λ h. (path : List ℕ) × (path_of h ≡ Some path) × IsFirstProgram words path (suite_of h))
+      → MatchOption found ((suite path : List ℕ) → ¬ IsCommand Line suite path) (λ h. IsHeading Line (suite_of h) (path_of h))
+  command_of words is None none = λ suite path h.
       let both = sym is ∙ words-of suite path h in
       let ends : words ++ codes "`" ≡ h.words ++ codes "`" = cc in
       none path suite (subst (λ t. IsFirstProgram t path suite) (sym (append_cancel_right words h.words (codes "`") ends)) h.first)
+  command_of words is (Some h) found = subst (IsHeading Line (suite_of h)) (sym found.1)
+      (inr record { words = words; is = ap (λ t. codes "Running " ++ t) is; first = found.2 })
 
 pub program_of : (word : List ℕ) (r : Option (Bor (List ℕ))) → All (λ b. b ≢ 61) word
     → MatchOption r ((name : List ℕ) → ¬ IsBinary word name) (λ x. IsBinary word x.now)

@@ -127,6 +127,19 @@ held_damage : (line : List ℕ) (at : ℕ) (rest : Option ℕ) (damage : Option 
 held_damage line at None damage front damaged = undamaged damage (subst (λ k. IsDamage (take k line) damage) front damaged)
 held_damage line at (Some size) damage front damaged = subst (λ k. IsDamage (take k line) damage) (sym front.1) damaged
 
+-- the line is wholly this event
+pub whole_line : (line : List ℕ) (e : EventView) → HoldsEvent line 0 e → LineSays line (e ∷ [])
+whole_line line e holds = record {
+  before = None;
+  event = e;
+  rest = None;
+  damage = None;
+  says = inl (refl, (0, holds));
+  is_rest = (e, holds);
+  damaged = refl;
+  are = refl;
+}
+
 pub held_line : (line : List ℕ) (events : List EventView) (at : ℕ) (e : EventView) (damage : Option EventView) (rest : Option ℕ) → HoldsEvent line at e
     → IsDamage (take at line) damage → IsFront at rest → events ≡ e ∷ option_to_list damage → LineSays line events
 held_line line events at e damage rest holds damaged front are = record {

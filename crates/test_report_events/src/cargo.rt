@@ -1,6 +1,6 @@
 //! Recognizes the lines of cargo and nextest that are not JSON.
 
-ghost use Rattle.std.specs.Prelude.{◌≡◌, ◌↔◌, ◌++◌, ◌&&◌, ◌||◌, ℕ, List, IfOk, IsTrue, MatchOption, Option, None, codes, drop, length, option_map};
+ghost use Rattle.std.specs.Prelude.{◌≡◌, ◌↔◌, ◌++◌, ◌&&◌, ◌||◌, ℕ, List, IfOk, IsTrue, MatchOption, Option, None, Some, codes, drop, length, option_map};
 ghost use Rattle.std.specs.Char.{is_ascii_hexdigit};
 ghost use Rattle.std.specs.List.{AllPass};
 ghost use Rattle.std.specs.String.{string_bytes};
@@ -43,8 +43,8 @@ impl<'a> Heading<'a> {
         ensures { IfOk result (λ suite. string_bytes suite ≡ kept.suite_of self.now) }
     {
         match *self {
-            Heading::DocTests { crate_name } => format!(in alloc; "{crate_name} (doc tests)"),
-            Heading::Target { binary, target, .. } => format!(in alloc; "{binary} ({target})"),
+            Heading::DocTests { crate_name } => suite_of(alloc, crate_name, "doc tests"),
+            Heading::Target { binary, target, .. } => suite_of(alloc, binary, target),
             Heading::Command { binary, .. } => String::from_str(alloc, binary),
         }
     }
@@ -59,6 +59,13 @@ impl<'a> Heading<'a> {
             Heading::Command { path, .. } => Some(path),
         }
     }
+}
+
+/// Returns the name of the suites of a crate or a binary, with their kind: `NAME (KIND)`.
+pub(crate) fn suite_of(alloc: Global, name: &str, kind: &str) -> Result<String, AllocError>
+    ensures { IfOk result (λ suite. string_bytes suite ≡ name.now ++ (codes " (" ++ (kind.now ++ codes ")"))) }
+{
+    format!(in alloc; "{name} ({kind})")
 }
 
 /// A line of cargo or nextest that a report needs.
@@ -124,37 +131,19 @@ fn binary_heading(text: &str) -> Option<Heading<'_>>
     }
 }
 
-/// Returns the heading that `TARGET (PATH)` makes, or `None` if the text has another form.
+/// Returns the heading that `TARGET (PATH)` makes, or `None` if the text has another form. PATH follows the last ` (`.
 fn target_heading(text: &str) -> Option<Heading<'_>>
     ensures { MatchOption result
         ((suite path : List ℕ) → ¬ spec.IsRunning (codes "Running " ++ text.now) suite path)
         (λ found. spec.IsHeading (codes "Running " ++ text.now) (kept.suite_of found) (kept.path_of found)) }
 {
-    match target_and_path(text) {
-        Some((target, path)) => match binary_at(path) {
-            Some(binary) => Some(Heading::Target {
-                binary,
-                target,
-                path,
-            }),
-            None => None,
-        },
-        None => None,
-    }
-}
-
-/// Splits `X (PATH)` at its last ` (`.
-fn target_and_path(text: &str) -> Option<(&str, &str)>
-    ensures { MatchOption result
-        ((target path : List ℕ) → ¬ spec.IsTarget text.now target path)
-        (λ x. spec.IsTarget text.now x.0.now x.1.now) }
-{
-    let (target, rest) = text.rsplit_once(" (")?;
-    let path = rest.strip_suffix(')')?;
-    if target.is_empty() {
-        None
-    } else {
-        Some((target, path))
+    match text.strip_suffix(')')?.rsplit_once(" (") {
+        Some((target, path)) if !target.is_empty() => Some(Heading::Target {
+            binary: binary_at(path)?,
+            target,
+            path,
+        }),
+        _ => None,
     }
 }
 
@@ -164,20 +153,18 @@ fn command_heading(text: &str) -> Option<Heading<'_>>
         ((suite path : List ℕ) → ¬ spec.IsCommand (codes "Running " ++ text.now) suite path)
         (λ found. spec.IsHeading (codes "Running " ++ text.now) (kept.suite_of found) (kept.path_of found)) }
 {
-    let words = text.strip_prefix('`')?.strip_suffix('`')?;
-    let (path, binary) = first_program(words)?;
-    Some(Heading::Command { binary, path })
+    first_program(text.strip_prefix('`')?.strip_suffix('`')?)
 }
 
-/// Returns the first word that is the path of a test binary, and the binary's name. Words are divided at spaces.
-fn first_program(words: &str) -> Option<(&str, &str)>
+/// Returns the heading of the first word that is the path of a test binary. Words are divided at spaces.
+fn first_program(words: &str) -> Option<Heading<'_>>
     ensures { MatchOption result
         ((path name : List ℕ) → ¬ spec.IsFirstProgram words.now path name)
-        (λ x. spec.IsFirstProgram words.now x.0.now x.1.now) }
+        (λ found. (path : List ℕ) × (kept.path_of found ≡ Some path) × spec.IsFirstProgram words.now path (kept.suite_of found)) }
 {
-    for word in words.split(' ') {
-        if let Some(name) = program(word) {
-            return Some((word, name));
+    for path in words.split(' ') {
+        if let Some(binary) = program(path) {
+            return Some(Heading::Command { binary, path });
         }
     }
     None
@@ -244,7 +231,7 @@ fn without_hash(file: &str) -> Option<&str>
 fn is_hash(text: &str) -> bool
     ensures { IsTrue result ↔ ((length text.now ≡ 16) × AllPass is_ascii_hexdigit text.now) }
 {
-    text.len() == HASH_DIGITS && text.bytes().all(|byte| byte.is_ascii_hexdigit())
+    text.len() == HASH_DIGITS && text.as_bytes().iter().all(u8::is_ascii_hexdigit)
 }
 
 /// Returns true if a line starts with this text.
@@ -264,7 +251,7 @@ pub(crate) fn cargo_failure(line: &str) -> Option<CargoFailure>
         Some(CargoFailure::Build)
     } else if reports_tests(line) {
         Some(CargoFailure::Tests)
-    } else if begins(line, "error: test run failed") || reports_targets(line) {
+    } else if reports_run(line) {
         Some(CargoFailure::Run)
     } else {
         None
@@ -299,6 +286,14 @@ fn reports_tests(line: &str) -> bool
         || begins(line, "error: setup script failed")
 }
 
+/// Returns true for the errors of a run that failed.
+fn reports_run(line: &str) -> bool
+    ensures { result ≡ (spec.begins line.now (codes "error: test run failed")
+        || (spec.begins line.now (codes "error: ") && spec.is_targets_failed (drop 7 line.now))) }
+{
+    begins(line, "error: test run failed") || reports_targets(line)
+}
+
 /// Returns true for `error: N target failed:` and `error: N targets failed:`.
 fn reports_targets(line: &str) -> bool
     ensures { result ≡ (spec.begins line.now (codes "error: ") && spec.is_targets_failed (drop 7 line.now)) }
@@ -315,11 +310,9 @@ fn is_targets_failed(error: &str) -> bool
     ensures { result ≡ spec.is_targets_failed error.now }
 {
     match error.split_once(' ') {
-        Some((number, words)) => {
-            !number.is_empty()
-                && are_digits(number.as_bytes())
-                && (words == "target failed:" || words == "targets failed:")
+        Some((number, "target failed:" | "targets failed:")) => {
+            !number.is_empty() && are_digits(number.as_bytes())
         }
-        None => false,
+        _ => false,
     }
 }

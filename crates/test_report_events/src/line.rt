@@ -67,7 +67,13 @@ impl Line {
     {
         if let Some(name) = started_test(bytes) {
             let content = Content::test_started(alloc, name)?;
-            return event_line(alloc, bytes, 0, content, None);
+            return Ok(Line {
+                before: None,
+                content,
+                damage: None,
+                rest: None,
+                program: None,
+            });
         }
         match value_in(alloc, bytes)? {
             Some((at, value)) => value_line(alloc, bytes, at, &value),
@@ -114,29 +120,6 @@ impl Line {
     {
         self.program.as_ref()
     }
-}
-
-/// Returns the line whose event has this content and begins at an offset, and which says this of a program.
-fn event_line(
-    alloc: Global,
-    bytes: &[u8],
-    at: usize,
-    content: Content,
-    program: Option<ProgramLine>,
-) -> Result<Line, AllocError>
-    requires { HoldsEvent bytes.now at (kept.content_event content) }
-    ensures says { IfOk result (λ line. LineSays bytes.now (kept.events_of line)) }
-    ensures rest { IfOk result (λ line. RestOf bytes.now (kept.rest_of line)) }
-    ensures tells { IfOk result (λ line. line.program ≡ program) }
-{
-    let damage = damage_of(alloc, &bytes[..at])?;
-    Ok(Line {
-        before: None,
-        content,
-        damage,
-        rest: (at > 0).then_some(at),
-        program,
-    })
 }
 
 /// Returns the line with this content, which is no event of a test harness, and so says nothing of a program.
@@ -236,9 +219,16 @@ fn value_line(alloc: Global, bytes: &[u8], at: usize, value: &Value) -> Result<L
     let time = members.time_in(bytes);
     match members.event_kind() {
         Some(kind) => {
+            let damage = damage_of(alloc, &bytes[..at])?;
             let content = members.content(alloc, time, kind)?;
             let program = ProgramLine::of(alloc, value)?;
-            event_line(alloc, bytes, at, content, program)
+            Ok(Line {
+                before: None,
+                content,
+                damage,
+                rest: (at > 0).then_some(at),
+                program,
+            })
         }
         None => print_line(alloc, bytes),
     }

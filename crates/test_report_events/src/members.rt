@@ -361,12 +361,21 @@ fn test_kind<'a>(name: &'a str, event: &str) -> EventKind<'a>
 fn key_of(value: &Value) -> Option<SuiteKey<'_>>
     ensures { option_map text_of_key result ≡ said.key_of (view value.now) }
 {
-    let nextest = value.get("nextest")?;
-    Some(SuiteKey {
-        package: text_of(nextest, "crate")?,
-        binary: text_of(nextest, "test_binary")?,
-        stress_index: number_of(nextest, "stress_index"),
-    })
+    value.get("nextest").and_then(key_in)
+}
+
+/// Returns the key of a suite in the value of `nextest`.
+fn key_in(nextest: &Value) -> Option<SuiteKey<'_>>
+    ensures { option_map text_of_key result ≡ said.key_in (view nextest.now) }
+{
+    match (text_of(nextest, "crate"), text_of(nextest, "test_binary")) {
+        (Some(package), Some(binary)) => Some(SuiteKey {
+            package,
+            binary,
+            stress_index: number_of(nextest, "stress_index"),
+        }),
+        _ => None,
+    }
 }
 
 /// Returns the end of a suite.

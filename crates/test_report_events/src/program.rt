@@ -4,7 +4,7 @@ ghost use Rattle.std.specs.Prelude.{◌≡◌, IfOk, codes, option_map, string_b
 ghost use Rattle.serde_json.specs.View.{view};
 ghost use Rattle.test_report_events.specs.Program as spec;
 
-use crate::cargo::file_name;
+use crate::cargo::{file_name, suite_of};
 use crate::content::owned;
 use crate::members::{number_of, text_of};
 use run_events_results::results::CancelReason;
@@ -136,8 +136,8 @@ fn start_of(alloc: Global, object: &Value) -> Result<ProgramStart, AllocError>
     Ok(ProgramStart {
         name: name_of(alloc, object)?,
         path: owned(alloc, text_of(object, "path"))?,
-        own_harness: truth_of(object, "harness") == Some(false),
-        lists: truth_of(object, "list") == Some(true),
+        own_harness: !truth_of(object, "harness").unwrap_or(true),
+        lists: truth_of(object, "list").unwrap_or(false),
     })
 }
 
@@ -149,7 +149,7 @@ fn name_of(alloc: Global, object: &Value) -> Result<String, AllocError>
         return String::from_str(alloc, name);
     }
     match (text_of(object, "kind"), text_of(object, "package")) {
-        (Some("doc"), Some(package)) => format!(in alloc; "{package} (doc tests)"),
+        (Some("doc"), Some(package)) => suite_of(alloc, package, "doc tests"),
         (Some("doc"), None) => String::from_str(alloc, NAMELESS),
         _ => String::from_str(alloc, target_of(object).unwrap_or(NAMELESS)),
     }

@@ -91,10 +91,11 @@ fn heading_end(plain: &str) -> Option<CargoEnd<'_>>
     ensures { FindsEnd (spec.EndsWithHeading plain.now) plain.now result }
 {
     let at = last_heading(plain)?;
-    let heading = heading_of(without_spaces(&plain[at..]))?;
+    let text = &plain[at..];
+    let heading = heading_of(without_spaces(text))?;
     Some(CargoEnd {
         front: &plain[..at],
-        text: &plain[at..],
+        text,
         says: CargoLine::Heading(heading),
     })
 }
@@ -116,10 +117,11 @@ fn failure_end(plain: &str) -> Option<CargoEnd<'_>>
     ensures { FindsEnd (spec.EndsWithFailure plain.now) plain.now result }
 {
     let at = plain.rfind("error: ")?;
-    let failure = cargo_failure(&plain[at..])?;
+    let text = &plain[at..];
+    let failure = cargo_failure(text)?;
     Some(CargoEnd {
         front: &plain[..at],
-        text: &plain[at..],
+        text,
         says: CargoLine::Failure(failure),
     })
 }

@@ -97,7 +97,7 @@ pub(crate) fn are_digits(bytes: &[u8]) -> bool
     ensures value { result ≡ list_all is_ascii_digit bytes.now }
     ensures digits { IsTrue result ↔ time.AreDigits bytes.now }
 {
-    bytes.iter().all(|byte| byte.is_ascii_digit())
+    bytes.iter().all(u8::is_ascii_digit)
 }
 
 /// Parses a number of seconds, and returns whole microseconds, rounded down. Returns `None` if the text is not a

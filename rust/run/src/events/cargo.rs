@@ -28,8 +28,8 @@ impl<'a> Heading<'a> {
     /// Returns the name of the suites that follow: `NAME (doc tests)`, `BINARY (TARGET)` or `BINARY`.
     pub(crate) fn suite(&self) -> String {
         match *self {
-            Heading::DocTests { crate_name } => format!("{crate_name} (doc tests)"),
-            Heading::Target { binary, target, .. } => format!("{binary} ({target})"),
+            Heading::DocTests { crate_name } => suite_of(crate_name, "doc tests"),
+            Heading::Target { binary, target, .. } => suite_of(binary, target),
             Heading::Command { binary, .. } => String::from(binary),
         }
     }
@@ -42,6 +42,11 @@ impl<'a> Heading<'a> {
             Heading::Command { path, .. } => Some(path),
         }
     }
+}
+
+/// Returns the name of the suites of a crate or a binary, with their kind: `NAME (KIND)`.
+pub(crate) fn suite_of(name: &str, kind: &str) -> String {
+    format!("{name} ({kind})")
 }
 
 /// A line of cargo or nextest that a report needs.
@@ -90,44 +95,28 @@ fn binary_heading(text: &str) -> Option<Heading<'_>> {
     }
 }
 
-/// Returns the heading that `TARGET (PATH)` makes, or `None` if the text has another form.
+/// Returns the heading that `TARGET (PATH)` makes, or `None` if the text has another form. PATH follows the last ` (`.
 fn target_heading(text: &str) -> Option<Heading<'_>> {
-    match target_and_path(text) {
-        Some((target, path)) => match binary_at(path) {
-            Some(binary) => Some(Heading::Target {
-                binary,
-                target,
-                path,
-            }),
-            None => None,
-        },
-        None => None,
-    }
-}
-
-/// Splits `X (PATH)` at its last ` (`.
-fn target_and_path(text: &str) -> Option<(&str, &str)> {
-    let (target, rest) = text.rsplit_once(" (")?;
-    let path = rest.strip_suffix(')')?;
-    if target.is_empty() {
-        None
-    } else {
-        Some((target, path))
+    match text.strip_suffix(')')?.rsplit_once(" (") {
+        Some((target, path)) if !target.is_empty() => Some(Heading::Target {
+            binary: binary_at(path)?,
+            target,
+            path,
+        }),
+        _ => None,
     }
 }
 
 /// Returns the heading that `` `WORDS` `` makes, or `None` if the text has another form.
 fn command_heading(text: &str) -> Option<Heading<'_>> {
-    let words = text.strip_prefix('`')?.strip_suffix('`')?;
-    let (path, binary) = first_program(words)?;
-    Some(Heading::Command { binary, path })
+    first_program(text.strip_prefix('`')?.strip_suffix('`')?)
 }
 
-/// Returns the first word that is the path of a test binary, and the binary's name. Words are divided at spaces.
-fn first_program(words: &str) -> Option<(&str, &str)> {
-    for word in words.split(' ') {
-        if let Some(name) = program(word) {
-            return Some((word, name));
+/// Returns the heading of the first word that is the path of a test binary. Words are divided at spaces.
+fn first_program(words: &str) -> Option<Heading<'_>> {
+    for path in words.split(' ') {
+        if let Some(binary) = program(path) {
+            return Some(Heading::Command { binary, path });
         }
     }
     None
@@ -175,7 +164,7 @@ fn without_hash(file: &str) -> Option<&str> {
 
 /// Returns true for sixteen hexadecimal digits.
 fn is_hash(text: &str) -> bool {
-    text.len() == HASH_DIGITS && text.bytes().all(|byte| byte.is_ascii_hexdigit())
+    text.len() == HASH_DIGITS && text.as_bytes().iter().all(u8::is_ascii_hexdigit)
 }
 
 /// Returns true if a line starts with this text.
@@ -189,7 +178,7 @@ pub(crate) fn cargo_failure(line: &str) -> Option<CargoFailure> {
         Some(CargoFailure::Build)
     } else if reports_tests(line) {
         Some(CargoFailure::Tests)
-    } else if begins(line, "error: test run failed") || reports_targets(line) {
+    } else if reports_run(line) {
         Some(CargoFailure::Run)
     } else {
         None
@@ -213,6 +202,11 @@ fn reports_tests(line: &str) -> bool {
         || begins(line, "error: setup script failed")
 }
 
+/// Returns true for the errors of a run that failed.
+fn reports_run(line: &str) -> bool {
+    begins(line, "error: test run failed") || reports_targets(line)
+}
+
 /// Returns true for `error: N target failed:` and `error: N targets failed:`.
 fn reports_targets(line: &str) -> bool {
     match line.strip_prefix("error: ") {
@@ -224,11 +218,9 @@ fn reports_targets(line: &str) -> bool {
 /// Returns true for `N target failed:` and `N targets failed:`.
 fn is_targets_failed(error: &str) -> bool {
     match error.split_once(' ') {
-        Some((number, words)) => {
-            !number.is_empty()
-                && are_digits(number.as_bytes())
-                && (words == "target failed:" || words == "targets failed:")
+        Some((number, "target failed:" | "targets failed:")) => {
+            !number.is_empty() && are_digits(number.as_bytes())
         }
-        None => false,
+        _ => false,
     }
 }

@@ -41,7 +41,13 @@ impl Line {
     pub fn read(bytes: &[u8]) -> Line {
         if let Some(name) = started_test(bytes) {
             let content = Content::test_started(name);
-            return event_line(bytes, 0, content, None);
+            return Line {
+                before: None,
+                content,
+                damage: None,
+                rest: None,
+                program: None,
+            };
         }
         match value_in(bytes) {
             Some((at, value)) => value_line(bytes, at, &value),
@@ -77,18 +83,6 @@ impl Line {
     /// such a line counts depends on where it is read.
     pub fn program(&self) -> Option<&ProgramLine> {
         self.program.as_ref()
-    }
-}
-
-/// Returns the line whose event has this content and begins at an offset, and which says this of a program.
-fn event_line(bytes: &[u8], at: usize, content: Content, program: Option<ProgramLine>) -> Line {
-    let damage = damage_of(&bytes[..at]);
-    Line {
-        before: None,
-        content,
-        damage,
-        rest: (at > 0).then_some(at),
-        program,
     }
 }
 
@@ -161,9 +155,16 @@ fn value_line(bytes: &[u8], at: usize, value: &Value) -> Line {
     let time = members.time_in(bytes);
     match members.event_kind() {
         Some(kind) => {
+            let damage = damage_of(&bytes[..at]);
             let content = members.content(time, kind);
             let program = ProgramLine::of(value);
-            event_line(bytes, at, content, program)
+            Line {
+                before: None,
+                content,
+                damage,
+                rest: (at > 0).then_some(at),
+                program,
+            }
         }
         None => print_line(bytes),
     }

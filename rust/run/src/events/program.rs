@@ -1,7 +1,7 @@
 // Made by tools/erase from crates/test_report_events/src/program.rt. Do not edit.
 //! What a line says of a test program, or of the command that runs all of them.
 
-use crate::events::cargo::file_name;
+use crate::events::cargo::{file_name, suite_of};
 use crate::events::content::owned;
 use crate::events::members::{number_of, text_of};
 use deodarsieve::CancelReason;
@@ -114,8 +114,8 @@ fn start_of(object: &Value) -> ProgramStart {
     ProgramStart {
         name: name_of(object),
         path: owned(text_of(object, "path")),
-        own_harness: truth_of(object, "harness") == Some(false),
-        lists: truth_of(object, "list") == Some(true),
+        own_harness: !truth_of(object, "harness").unwrap_or(true),
+        lists: truth_of(object, "list").unwrap_or(false),
     }
 }
 
@@ -125,7 +125,7 @@ fn name_of(object: &Value) -> String {
         return String::from(name);
     }
     match (text_of(object, "kind"), text_of(object, "package")) {
-        (Some("doc"), Some(package)) => format!("{package} (doc tests)"),
+        (Some("doc"), Some(package)) => suite_of(package, "doc tests"),
         (Some("doc"), None) => String::from(NAMELESS),
         _ => String::from(target_of(object).unwrap_or(NAMELESS)),
     }

@@ -60,10 +60,11 @@ fn cargo_end(plain: &str) -> Option<CargoEnd<'_>> {
 /// place at which a heading begins, with the spaces that cargo aligns it with.
 fn heading_end(plain: &str) -> Option<CargoEnd<'_>> {
     let at = last_heading(plain)?;
-    let heading = heading_of(without_spaces(&plain[at..]))?;
+    let text = &plain[at..];
+    let heading = heading_of(without_spaces(text))?;
     Some(CargoEnd {
         front: &plain[..at],
-        text: &plain[at..],
+        text,
         says: CargoLine::Heading(heading),
     })
 }
@@ -81,10 +82,11 @@ fn last_heading(plain: &str) -> Option<usize> {
 /// `error: `.
 fn failure_end(plain: &str) -> Option<CargoEnd<'_>> {
     let at = plain.rfind("error: ")?;
-    let failure = cargo_failure(&plain[at..])?;
+    let text = &plain[at..];
+    let failure = cargo_failure(text)?;
     Some(CargoEnd {
         front: &plain[..at],
-        text: &plain[at..],
+        text,
         says: CargoLine::Failure(failure),
     })
 }

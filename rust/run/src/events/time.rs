@@ -72,7 +72,7 @@ fn parts_of(number: &[u8]) -> (&[u8], &[u8]) {
 
 /// Returns true if all bytes are digits.
 pub(crate) fn are_digits(bytes: &[u8]) -> bool {
-    bytes.iter().all(|byte| byte.is_ascii_digit())
+    bytes.iter().all(u8::is_ascii_digit)
 }
 
 /// Parses a number of seconds, and returns whole microseconds, rounded down. Returns `None` if the text is not a

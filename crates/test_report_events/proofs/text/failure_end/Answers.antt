@@ -11,9 +11,9 @@ returns-in_err-at c = rw c.from_residual.ensures
 
 pub returns-in_err-failure : goal.returns-in_err-failure
 returns-in_err-failure c = rw c.from_residual-in_err-failure.ensures
-    (no_failure_end c.args.plain.now c.range_from.result.now c.in_ok-at.at
+    (no_failure_end c.args.plain.now c.range_from-text.result.now c.in_ok-at.at
     (text-found c.args.plain.now (codes "error: ") (Some c.in_ok-at.at) (omega arith) c.in_ok-at.ensures.cases)
-    c.range_from.ensures.value c.in_err-failure.ensures)
+    c.range_from-text.ensures.value c.in_err-failure.ensures)
 
 pub returns : goal.returns
 returns c =
@@ -22,13 +22,13 @@ returns c =
     let start : at - 0 ≡ at = omega arith in (
       at,
       c.range.ensures.value ∙ ap (λ n. take n c.args.plain.now) start,
-      c.range_from-2.ensures.value,
+      c.range_from-text.ensures.value,
       (
         text-found plain (codes "error: ") (Some at) (omega arith) c.in_ok-at.ensures.cases,
         (
           c.in_ok-failure.failure,
-          sym (c.in_ok-failure.ensures ∙ ap failure_of c.range_from.ensures.value),
-          ap (λ t. CargoFails c.in_ok-failure.failure t t) c.range_from-2.ensures.value,
+          sym (c.in_ok-failure.ensures ∙ ap failure_of c.range_from-text.ensures.value),
+          ap (λ t. CargoFails c.in_ok-failure.failure t t) c.range_from-text.ensures.value,
         ),
       ),
     )

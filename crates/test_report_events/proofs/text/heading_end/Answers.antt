@@ -11,17 +11,17 @@ returns-in_err-at c = rw c.from_residual.ensures (λ at e h. c.in_err-at.ensures
 pub returns-in_err-heading : goal.returns-in_err-heading
 returns-in_err-heading c = rw c.from_residual-in_err-heading.ensures
     (no_heading_end c.args.plain.now c.without_spaces.result.now c.in_ok-at.at c.in_ok-at.ensures
-    (c.without_spaces.ensures ∙ ap without_spaces c.range_from.ensures.value) c.in_err-heading.ensures)
+    (c.without_spaces.ensures ∙ ap without_spaces c.range_from-text.ensures.value) c.in_err-heading.ensures)
 
 pub returns : goal.returns
 returns c =
     let heading = c.in_ok-heading.heading in
-    let text = c.without_spaces.ensures ∙ ap without_spaces c.range_from.ensures.value in
+    let text = c.without_spaces.ensures ∙ ap without_spaces c.range_from-text.ensures.value in
     let is = subst (λ t. IsHeading t (suite_of heading) (path_of heading)) text c.in_ok-heading.ensures in
     let at = c.in_ok-at.at in
     let start : at - 0 ≡ at = omega arith in (
       at,
       c.range.ensures.value ∙ ap (λ n. take n c.args.plain.now) start,
-      c.range_from-2.ensures.value,
+      c.range_from-text.ensures.value,
       (c.in_ok-at.ensures, (suite_of heading, path_of heading, is, refl)),
     )

@@ -1,9 +1,12 @@
-use Rattle.std.proofs.Common.{None}
-use Rattle.std.proofs.lemmas.Result.{IfOk-weaker}
-use Rattle.test_report_events.proofs.Readings.{start_tells, tells_kept}
+use Rattle.std.proofs.Common.{subst, sym}
+use Rattle.test_report_events.proofs.Readings.{start_tells, whole_line}
+use Rattle.test_report_events.specs.Content.{content_event}
+use Rattle.test_report_events.specs.Line.{HoldsEvent}
 use Rattle.test_report_events.proofs.line.Line.read.Goals as goal
 
-pub returns-in-Some-clause-tells : goal.returns-in-Some-clause-tells
-returns-in-Some-clause-tells c =
-    IfOk-weaker c.event_line.result _ _ (λ line. tells_kept c.args.bytes.now line None (start_tells c.args.bytes.now 0 _ c.in-Some.ensures))
-    c.event_line.ensures.tells
+pub returns-in-Some : goal.returns-in-Some
+returns-in-Some c =
+    let bytes = c.args.bytes.now in
+    let e = content_event c.in_ok-content.content in
+    let holds = subst (HoldsEvent bytes 0) (sym c.in_ok-content.ensures) c.in-Some.ensures in
+    record { says = whole_line bytes e holds; rest = (e, holds); tells = start_tells bytes 0 c.in-Some.name.now c.in-Some.ensures }
