@@ -1,7 +1,8 @@
 //! A test program that runs, and what is wrong with its end.
 
-ghost use Rattle.std.specs.Prelude.{◌≡◌, ◌||◌, IfOk, map, option_map};
+ghost use Rattle.std.specs.Prelude.{◌≡◌, ◌++◌, ◌||◌, IfOk, OnOk, map, option_and_then, option_map};
 ghost use Rattle.std.specs.List.{list_any};
+ghost use Rattle.std.specs.Option.{option_map_or};
 ghost use Rattle.test_report_events.specs.Event.{event_view};
 ghost use Rattle.test_report_events.specs.Program.{start_view};
 ghost use Rattle.test_report_programs.specs.Lines as spec;
@@ -126,18 +127,51 @@ impl Program {
     }
 }
 
-impl Over {
-    /// Returns how all that is open ends with the program.
-    pub(crate) fn early_end(&self, alloc: Global) -> Result<EarlyEnd, AllocError>
-        ensures { IfOk result (λ end. early_view end ≡ spec.known_end (spec.over_view self.now)) }
-    {
-        let stderr = self.stderr.as_str();
-        Ok(EarlyEnd {
-            end: Some(self.end),
-            overflowed: threads_of(alloc, " has overflowed", stderr)?,
-            panicked: threads_of(alloc, " panicked", stderr)?,
-        })
+/// Returns what is wrong with the end of a program, if there is one. `end` is how it ended, if a line says so.
+pub(crate) fn fault_of(
+    program: Option<&Program>,
+    end: Option<ProgramEnd>,
+) -> Result<Option<ProgramFault>, AllocError>
+    ensures { IfOk result (λ fault. option_map fault_view fault ≡ option_and_then (option_map_or spec.fault_of end spec.lost_fault)
+        (option_map (λ program. spec.program_state program.now) program.entry)) }
+{
+    match (program, end) {
+        (Some(program), Some(end)) => program.fault(end),
+        (Some(program), None) => program.lost_fault(),
+        (None, _) => Ok(None),
     }
+}
+
+/// Keeps what an event made known.
+pub(crate) fn keep(
+    program: &mut Option<Program>,
+    starts: bool,
+    mut told: Vec<Note>,
+    notes: &mut Vec<Note>,
+) -> Result<(), AllocError>
+    ensures keeps { option_map spec.program_state program.new
+        ≡ option_map (spec.with_notes starts (map note_view told.items)) (option_map spec.program_state program.old) }
+    ensures tells { OnOk result (map note_view notes.new.items ≡ map note_view notes.old.items ++ map note_view told.items) }
+{
+    if let Some(program) = program {
+        program.take(starts, &told);
+    }
+    notes.append(&mut told)
+}
+
+/// Returns how all that is open ends with a program that ended so, with this standard error.
+pub(crate) fn early_end(
+    alloc: Global,
+    end: ProgramEnd,
+    stderr: &str,
+) -> Result<EarlyEnd, AllocError>
+    ensures { IfOk result (λ early. early_view early ≡ spec.known_end (record { end = end; stderr = stderr.now })) }
+{
+    Ok(EarlyEnd {
+        end: Some(end),
+        overflowed: threads_of(alloc, " has overflowed", stderr)?,
+        panicked: threads_of(alloc, " panicked", stderr)?,
+    })
 }
 
 /// Returns true if something ended with status 0.

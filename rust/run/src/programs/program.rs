@@ -101,15 +101,34 @@ impl Program {
     }
 }
 
-impl Over {
-    /// Returns how all that is open ends with the program.
-    pub(crate) fn early_end(&self) -> EarlyEnd {
-        let stderr = self.stderr.as_str();
-        EarlyEnd {
-            end: Some(self.end),
-            overflowed: threads_of(" has overflowed", stderr),
-            panicked: threads_of(" panicked", stderr),
-        }
+/// Returns what is wrong with the end of a program, if there is one. `end` is how it ended, if a line says so.
+pub(crate) fn fault_of(program: Option<&Program>, end: Option<ProgramEnd>) -> Option<ProgramFault> {
+    match (program, end) {
+        (Some(program), Some(end)) => program.fault(end),
+        (Some(program), None) => program.lost_fault(),
+        (None, _) => None,
+    }
+}
+
+/// Keeps what an event made known.
+pub(crate) fn keep(
+    program: &mut Option<Program>,
+    starts: bool,
+    mut told: Vec<Note>,
+    notes: &mut Vec<Note>,
+) {
+    if let Some(program) = program {
+        program.take(starts, &told);
+    }
+    notes.append(&mut told);
+}
+
+/// Returns how all that is open ends with a program that ended so, with this standard error.
+pub(crate) fn early_end(end: ProgramEnd, stderr: &str) -> EarlyEnd {
+    EarlyEnd {
+        end: Some(end),
+        overflowed: threads_of(" has overflowed", stderr),
+        panicked: threads_of(" panicked", stderr),
     }
 }
 

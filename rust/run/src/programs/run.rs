@@ -1,14 +1,12 @@
 // Made by tools/erase from crates/test_report_programs/src/run.rt. Do not edit.
 //! A test run whose lines tell of each test program.
 
+mod programs;
+
 use crate::events::event::Event;
 use crate::events::line::Line;
-use crate::events::program::{ProgramEnd, ProgramLine, ProgramStart};
 use crate::notes::note::{CommandEnd, Note, ProgramFault};
-use crate::programs::program::{
-    Over, Program, command_end, is_counted, is_start, is_zero, may_be_cancelled,
-};
-use crate::run::early::EarlyEnd;
+use crate::programs::program::{Over, Program, is_counted, is_start, keep};
 use crate::run::error::RunError;
 use crate::run::run::{Finished, TestRun};
 use crate::run::suite_names::SuiteNames;
@@ -57,13 +55,10 @@ impl ProgramRun {
     ///
     /// Fails if a number of the run does not fit its counter. After an error the run must not be used.
     pub fn on_line(&mut self, line: &Line) -> Result<Vec<Note>, RunError> {
-        let program = line.program();
-        let counts = self.counts.unwrap_or(program.is_some());
+        let counts = self.counts.unwrap_or(line.program().is_some());
         self.counts = Some(counts);
         let mut notes = Vec::new();
-        self.settle_before(counts, program, &mut notes)?;
-        self.take_events(counts, line, &mut notes)?;
-        self.take_program(counts, program, &mut notes)?;
+        self.take_line(counts, line, &mut notes)?;
         Ok(notes)
     }
 
@@ -118,10 +113,9 @@ impl ProgramRun {
 
     /// Says what is wrong at the end of a file in which lines of programs count.
     fn close(&mut self, notes: &mut Vec<Note>) -> Result<(), RunError> {
-        if self.counts != Some(true) {
+        if !self.counts.unwrap_or(false) {
             return Ok(());
         }
-        self.settle(notes)?;
         self.lose_program(notes)?;
         if self.is_done {
             return Ok(());
@@ -129,17 +123,25 @@ impl ProgramRun {
         self.tell_fault(ProgramFault::CutOff, notes)
     }
 
-    /// Takes the end of a program that was put off before a line that is not of a program or of the command.
-    fn settle_before(
+    /// Takes the events of a line, and what it says of a program or of the command, if lines of programs count.
+    fn take_line(
         &mut self,
         counts: bool,
-        line: Option<&ProgramLine>,
+        line: &Line,
         notes: &mut Vec<Note>,
     ) -> Result<(), RunError> {
-        if counts && line.is_none() {
-            self.settle(notes)
-        } else {
-            Ok(())
+        if !counts {
+            return self.take_events(counts, line, notes);
+        }
+        match line.program() {
+            Some(program) => {
+                self.take_events(counts, line, notes)?;
+                self.on_program_line(program, notes)
+            }
+            None => {
+                self.settle(notes)?;
+                self.take_events(counts, line, notes)
+            }
         }
     }
 
@@ -153,19 +155,6 @@ impl ProgramRun {
         self.take(counts, line.before(), notes)?;
         self.take(counts, Some(line.event()), notes)?;
         self.take(counts, line.damage(), notes)
-    }
-
-    /// Takes a line of a program or of the command, if it is one and such lines count.
-    fn take_program(
-        &mut self,
-        counts: bool,
-        line: Option<&ProgramLine>,
-        notes: &mut Vec<Note>,
-    ) -> Result<(), RunError> {
-        match line {
-            Some(line) if counts => self.on_program_line(line, notes),
-            _ => Ok(()),
-        }
     }
 
     /// Takes an event, if there is one, and it counts where lines of programs count or these do not.
@@ -184,193 +173,7 @@ impl ProgramRun {
     /// Tells an event to the run.
     fn tell(&mut self, event: Event<'_>, notes: &mut Vec<Note>) -> Result<(), RunError> {
         let told = self.run.on_event(event)?;
-        self.keep(is_start(event), told, notes)
-    }
-
-    /// Keeps what an event made known.
-    fn keep(
-        &mut self,
-        starts: bool,
-        mut told: Vec<Note>,
-        notes: &mut Vec<Note>,
-    ) -> Result<(), RunError> {
-        if let Some(program) = &mut self.program {
-            program.take(starts, &told);
-        }
-        notes.append(&mut told);
+        keep(&mut self.program, is_start(event), told, notes);
         Ok(())
-    }
-
-    /// Takes a line of a program or of the command.
-    fn on_program_line(
-        &mut self,
-        line: &ProgramLine,
-        notes: &mut Vec<Note>,
-    ) -> Result<(), RunError> {
-        match line {
-            ProgramLine::ProgramStarted(start) => {
-                self.settle(notes)?;
-                self.start_program(start, notes)
-            }
-            ProgramLine::ProgramEnded { end: None, .. } => {
-                self.settle(notes)?;
-                self.lose_program(notes)
-            }
-            ProgramLine::ProgramEnded {
-                end: Some(end),
-                stderr,
-            } => {
-                self.settle(notes)?;
-                let stderr = stderr.clone();
-                self.end_program(Over { end: *end, stderr }, notes)
-            }
-            ProgramLine::CommandStarted => self.settle(notes),
-            ProgramLine::CommandCancelled(reason) => {
-                self.cancel(*reason);
-                self.settle(notes)
-            }
-            ProgramLine::CommandEnded { end, error, reason } => {
-                self.end_command(*end, error.as_deref(), *reason, notes)
-            }
-        }
-    }
-
-    /// Takes how the command ended, the error that it reported, and why the run was cancelled. Of a later end than the
-    /// first one only a failure counts.
-    fn end_command(
-        &mut self,
-        end: Option<ProgramEnd>,
-        error: Option<&str>,
-        reason: Option<CancelReason>,
-        notes: &mut Vec<Note>,
-    ) -> Result<(), RunError> {
-        self.cancel(reason);
-        self.settle(notes)?;
-        self.lose_program(notes)?;
-        if self.ends_again(end) {
-            return Ok(());
-        }
-        let command = command_end(end, error);
-        self.run.on_command_ended(Some(command));
-        self.is_done = true;
-        Ok(())
-    }
-
-    /// Returns true if the command ended before, and `end` is an end with status 0.
-    fn ends_again(&self, end: Option<ProgramEnd>) -> bool {
-        self.is_done && end.is_some_and(is_zero)
-    }
-
-    /// Cancels the run, if there is a reason.
-    fn cancel(&mut self, reason: Option<CancelReason>) {
-        if let Some(reason) = reason {
-            self.run.on_cancelled(reason);
-        }
-    }
-
-    /// Starts a program.
-    fn start_program(
-        &mut self,
-        start: &ProgramStart,
-        notes: &mut Vec<Note>,
-    ) -> Result<(), RunError> {
-        self.lose_program(notes)?;
-        let suite = start.name.as_str();
-        let path = start.path.as_deref();
-        self.tell(Event::Heading { suite, path }, notes)?;
-        self.program = Some(Program::start(start));
-        Ok(())
-    }
-
-    /// Takes how a program ended.
-    fn end_program(&mut self, over: Over, notes: &mut Vec<Note>) -> Result<(), RunError> {
-        if self.program.is_none() {
-            if is_zero(over.end) {
-                return Ok(());
-            }
-            let fault = ProgramFault::NotStarted { end: over.end };
-            return self.tell_fault(fault, notes);
-        }
-        if may_be_cancelled(over.end) {
-            self.over = Some(over);
-            return Ok(());
-        }
-        self.program_over(&over, notes)
-    }
-
-    /// Takes the end of a program that was put off, if there is one.
-    fn settle(&mut self, notes: &mut Vec<Note>) -> Result<(), RunError> {
-        match self.over.take() {
-            Some(over) => self.program_over(&over, notes),
-            None => Ok(()),
-        }
-    }
-
-    /// Ends the program that runs: all that is open ends early, and the end is judged.
-    fn program_over(&mut self, over: &Over, notes: &mut Vec<Note>) -> Result<(), RunError> {
-        self.print_lines(over.stderr.as_str(), notes)?;
-        let end = over.early_end();
-        self.end_all(end, notes)?;
-        let fault = self.fault(over.end);
-        self.judge(fault, notes)
-    }
-
-    /// Prints each line of a text.
-    fn print_lines(&mut self, text: &str, notes: &mut Vec<Note>) -> Result<(), RunError> {
-        for line in text.lines() {
-            self.tell(Event::Print { line, plain: line }, notes)?;
-        }
-        Ok(())
-    }
-
-    /// Returns what is wrong with the program that runs if it ended so.
-    fn fault(&self, end: ProgramEnd) -> Option<ProgramFault> {
-        match &self.program {
-            Some(program) => program.fault(end),
-            None => None,
-        }
-    }
-
-    /// Ends the program that runs, if one does. No line says how it ended.
-    fn lose_program(&mut self, notes: &mut Vec<Note>) -> Result<(), RunError> {
-        if self.program.is_none() {
-            return Ok(());
-        }
-        self.end_all(EarlyEnd::unknown(), notes)?;
-        let fault = self.lost_fault();
-        self.judge(fault, notes)
-    }
-
-    /// Returns what is wrong with the program that runs if no line says how it ended.
-    fn lost_fault(&self) -> Option<ProgramFault> {
-        match &self.program {
-            Some(program) => program.lost_fault(),
-            None => None,
-        }
-    }
-
-    /// Ends all that is open.
-    fn end_all(&mut self, end: EarlyEnd, notes: &mut Vec<Note>) -> Result<(), RunError> {
-        let told = self.run.on_all_ended_early(end)?;
-        self.keep(false, told, notes)
-    }
-
-    /// Says what is wrong with the program that ran, if something is, and forgets the program.
-    fn judge(
-        &mut self,
-        fault: Option<ProgramFault>,
-        notes: &mut Vec<Note>,
-    ) -> Result<(), RunError> {
-        if let Some(fault) = fault {
-            self.tell_fault(fault, notes)?;
-        }
-        self.program = None;
-        Ok(())
-    }
-
-    /// Says what is wrong with the lines of programs.
-    fn tell_fault(&mut self, fault: ProgramFault, notes: &mut Vec<Note>) -> Result<(), RunError> {
-        let told = self.run.on_program_fault(fault)?;
-        self.keep(false, told, notes)
     }
 }
