@@ -1,7 +1,8 @@
 -- The tests of a suite that is over, one after another: what is counted, and what becomes known.
-use Rattle.std.proofs.Common.{◌≡◌, ◌++◌, ◌+◌, ◌∷◌, [], ℕ, List, Bool, ap, append_assoc, arith, length, length-append, map, refl}
+use Rattle.std.proofs.Common.{◌≡◌, ◌++◌, ◌+◌, ◌∷◌, [], ℕ, List, Bool, ap, append-nil, append_assoc, arith, filter, length, length-append, map, refl, sym, true, false}
 use Rattle.std.specs.List.{fold}
 use Rattle.std.proofs.lemmas.List.{map-append}
+use Rattle.std.proofs.lemmas.List.Elements.{filter-append}
 use Rattle.std.proofs.lemmas.List.Sums.{fold_push}
 use Rattle.run_events_stats.specs.declared.stats.RunStats.{RunStats}
 use Rattle.test_report_run_notes.specs.Note.{KindView, NoteView, OutcomeView}
@@ -16,6 +17,18 @@ notes-more : {A B : Type 0} (v : A → B) (g : B → NoteView) (old before after
     → before ≡ old ++ map g (map v done) → after ≡ before ++ g (v x) ∷ [] → after ≡ old ++ map g (map v (done ++ x ∷ []))
 notes-more v g old before after done x told one =
     rw (one, told, map-append v done (x ∷ []), map-append g (map v done) (v x ∷ [])) (append_assoc old (map g (map v done)) (g (v x) ∷ []))
+
+-- one more value, which is kept
+pub kept-more : {A B : Type 0} (v : A → B) (p : B → Bool) (done kept after : List A) (x : A)
+    → map v kept ≡ filter p (map v done) → p (v x) ≡ true → after ≡ kept ++ x ∷ [] → map v after ≡ filter p (map v (done ++ x ∷ []))
+kept-more v p done kept after x first is one =
+    rw (one, map-append v kept (x ∷ []), map-append v done (x ∷ []), filter-append p (map v done) (v x ∷ []), first, is) refl
+
+-- one more value, which is not kept
+pub left-more : {A B : Type 0} (v : A → B) (p : B → Bool) (done kept : List A) (x : A)
+    → map v kept ≡ filter p (map v done) → p (v x) ≡ false → map v kept ≡ filter p (map v (done ++ x ∷ []))
+left-more v p done kept x first is =
+    rw (map-append v done (x ∷ []), filter-append p (map v done) (v x ∷ []), first, is) (sym (append-nil (filter p (map v done))))
 
 -- one more test in the statistics
 stats-more : {A B : Type 0} (v : A → B) (h : RunStats → B → RunStats) (stats : RunStats) (done : List A) (x : A)

@@ -1,6 +1,6 @@
 //! The ends of the tests of a suite.
 
-ghost use Rattle.std.specs.Prelude.{◌≡◌, ◌+◌, ◌++◌, ◌∷◌, [], IfOk, OnOk, map, option_map};
+ghost use Rattle.std.specs.Prelude.{◌≡◌, ◌+◌, ◌++◌, ◌∷◌, [], IfOk, OnOk, map};
 ghost use Rattle.test_report_events.specs.Event.{test_end_view};
 ghost use Rattle.test_report_events.specs.declared.event.TestResult.TheVariants as ended;
 ghost use Rattle.test_report_run_notes.specs.Note.{failure_view, note_view, outcome_view, text_view};
@@ -11,6 +11,7 @@ use crate::counted::count;
 use crate::error::{RunError, one_more};
 use crate::said::time_sum;
 use crate::suite::{FlakyTest, OverTest, Suite};
+use crate::texts::owned;
 use std::alloc::{AllocError, Global};
 use test_report_events::event::{TestDetails, TestResult};
 use test_report_run_notes::finish::Finish;
@@ -18,16 +19,6 @@ use test_report_run_notes::note::{Failure, FailureKind, Note, TestOutcome};
 
 /// The reason of the harness for a test that ran out of time.
 const TIME_LIMIT: &str = "time limit exceeded";
-
-/// Copies a text that may be absent.
-fn owned(alloc: Global, text: Option<&str>) -> Result<Option<String>, AllocError>
-    ensures { IfOk result (λ copy. text_view copy ≡ option_map (λ text. text.now) text.entry) }
-{
-    match text {
-        Some(text) => Ok(Some(String::from_str(alloc, text)?)),
-        None => Ok(None),
-    }
-}
 
 /// Returns the failure of a test, from the line that says that it failed.
 fn failure_of(alloc: Global, details: TestDetails<'_>) -> Result<Failure, AllocError>

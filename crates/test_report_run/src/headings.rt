@@ -1,9 +1,9 @@
 //! The names that headings give suites.
 
 ghost use Rattle.std.specs.Prelude.{◌≡◌, [], IfOk, OnOk, option_map, string_bytes};
-ghost use Rattle.test_report_run_notes.specs.Note.{text_view};
 ghost use Rattle.test_report_run.specs.Headings.{headings_of, number_of, numbers_view, paths_of, shown_by, with_heading, with_path};
 
+use crate::texts::owned;
 use std::alloc::{AllocError, Global};
 use std::collections::BTreeMap;
 
@@ -84,15 +84,5 @@ impl Paths {
         let number = self.numbers.get(&path).copied().unwrap_or(next);
         self.numbers.insert(path, number)?;
         Ok(number)
-    }
-}
-
-/// Returns a text that may be absent, as an owned text.
-fn owned(alloc: Global, text: Option<&str>) -> Result<Option<String>, AllocError>
-    ensures { IfOk result (λ owned. text_view owned ≡ option_map (λ text. text.now) text.entry) }
-{
-    match text {
-        Some(text) => Ok(Some(String::from_str(alloc, text)?)),
-        None => Ok(None),
     }
 }

@@ -46,4 +46,5 @@ pub mod status;
 mod suite;
 mod suite_name;
 pub mod suite_names;
+mod texts;
 mod totals;

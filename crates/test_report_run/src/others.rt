@@ -1,7 +1,6 @@
 //! The lines of a file that are no events of a harness.
 
-ghost use Rattle.std.specs.Prelude.{◌≡◌, ◌==◌, ◌++◌, ◌∷◌, [], IfOk, OnOk, map, not, option_map, slice_get, string_bytes};
-ghost use Rattle.std.specs.List.{position};
+ghost use Rattle.std.specs.Prelude.{◌≡◌, ◌++◌, ◌∷◌, [], IfOk, OnOk, map, string_bytes};
 ghost use Rattle.test_report_run_notes.specs.Note.{text_view};
 ghost use Rattle.test_report_run.specs.Others as spec;
 ghost use Rattle.test_report_run.specs.Others.{others_view};
@@ -14,7 +13,7 @@ use crate::prints::Prints;
 use std::alloc::{AllocError, Global};
 
 /// The line before the one in which cargo names the cause of its failure.
-const CAUSED_BY: &[u8] = b"Caused by:";
+const CAUSED_BY: &str = "Caused by:";
 
 /// The place of a print of a file.
 #[derive(Clone, Copy, Default)]
@@ -47,7 +46,7 @@ pub(crate) struct Cause {
 }
 
 /// How far the search for the cause of the last failure is.
-#[derive(Clone, Copy, PartialEq, Eq)]
+#[derive(Clone, Copy)]
 enum Stage {
     /// There is nothing to search for: no failure came, the cause is known, or a heading came after the failure.
     Over,
@@ -116,7 +115,7 @@ impl Others {
             ≡ spec.after_print (others_view self.old) line.now plain.now) }
     {
         self.prints.take_print(alloc, line)?;
-        if self.stage == Stage::CausedBy {
+        if matches!(self.stage, Stage::CausedBy) {
             self.keep_cause(alloc, line, plain)?;
         }
         self.stage = stage_after(self.stage, plain);
@@ -245,25 +244,15 @@ fn stage_after(stage: Stage, plain: &str) -> Stage
     ensures { result ≡ spec.stage_after stage plain.now }
 {
     match stage {
-        Stage::Failed if says_caused_by(plain.as_bytes()) => Stage::CausedBy,
+        Stage::Failed if says_caused_by(plain) => Stage::CausedBy,
         Stage::Failed => Stage::Failed,
         Stage::Over | Stage::CausedBy => Stage::Over,
     }
 }
 
 /// Returns true if a line is `Caused by:`, perhaps after spaces.
-fn says_caused_by(plain: &[u8]) -> bool
+fn says_caused_by(plain: &str) -> bool
     ensures { result ≡ spec.says_caused_by plain.now }
 {
-    match spaces_end(plain) {
-        Some(at) => plain[at..] == CAUSED_BY[..],
-        None => false,
-    }
-}
-
-/// Returns the offset of the first byte that is not a space.
-fn spaces_end(text: &[u8]) -> Option<usize>
-    ensures { result ≡ position (λ b. not (b == 32)) text.now }
-{
-    text.iter().position(|byte| *byte != b' ')
+    plain.trim_start_matches(' ') == CAUSED_BY
 }

@@ -1,17 +1,16 @@
 //! A test run that is followed line by line.
 
-ghost use Rattle.std.specs.Prelude.{◌≡◌, ◌↔◌, ◌⊎◌, ◌++◌, ◌∷◌, [], IfOk, IsTrue, OnOk, if◌then◌else◌, map, option_map, option_to_list, slice_get, string_bytes};
+ghost use Rattle.std.specs.Prelude.{◌≡◌, ◌↔◌, ◌⊎◌, ◌++◌, ◌∷◌, [], IfOk, IsTrue, OnOk, map, option_map, slice_get, string_bytes};
 ghost use Rattle.run_events_stats.specs.declared.outcome.run_outcome.RunOutcome.TheVariants as outcomes;
 ghost use Rattle.test_report_events.specs.Content.{events_of};
 ghost use Rattle.test_report_events.specs.Event.{event_view};
 ghost use Rattle.test_report_run_notes.specs.Note.{Disagrees, command_view, disagreement_view, is_new_disagreement, note_view, text_view};
-ghost use Rattle.test_report_run.specs.Events.{is_after_report, is_event};
 ghost use Rattle.test_report_run.specs.FileEnd as ends;
-ghost use Rattle.test_report_run.specs.Prints.{lines_of};
 ghost use Rattle.test_report_run.specs.Run as spec;
 ghost use Rattle.test_report_run.specs.Run.{run_settings, run_state};
 
 mod command;
+mod events;
 mod lines;
 mod programs;
 pub mod progress;
@@ -26,7 +25,6 @@ use crate::longest_end::LongestEnd;
 use crate::open_suites::OpenSuites;
 use crate::others::Others;
 use crate::run::command::says_more;
-use crate::run::lines::push_damaged;
 use crate::running::Running;
 use crate::status::exit_status;
 use crate::suite::Suite;
@@ -306,83 +304,6 @@ impl TestRun {
         self.totals.end(self.disagreements, self.cancels)
     }
 
-    /// Takes an event if there is one, and appends its notes.
-    fn take(
-        &mut self,
-        alloc: Global,
-        event: Option<Event<'_>>,
-        notes: &mut Vec<Note>,
-    ) -> Result<(), RunError>
-        ensures tells { OnOk result (map note_view notes.new.items ≡ map note_view notes.old.items
-            ++ spec.notes_of (run_state self.old) (option_to_list (option_map event_view event.entry))) }
-        ensures takes { OnOk result (run_state self.new
-            ≡ spec.run_after (run_state self.old) (option_to_list (option_map event_view event.entry))) }
-    {
-        match event {
-            Some(event) => {
-                let mut told = self.on_event(alloc, event)?;
-                notes.append(&mut told)?;
-                Ok(())
-            }
-            None => Ok(()),
-        }
-    }
-
-    /// Makes the last failure of cargo known, if no line after this event can explain it.
-    fn settle_at(&mut self, event: Event<'_>, notes: &mut Vec<Note>) -> Result<(), AllocError>
-        ensures takes { OnOk result (run_state self.new
-            ≡ (spec.settled_at (run_state self.old) (event_view event.entry)).run) }
-        ensures tells { OnOk result (map note_view notes.new.items ≡ map note_view notes.old.items
-            ++ (spec.settled_at (run_state self.old) (event_view event.entry)).notes) }
-    {
-        if is_after_report(event) {
-            self.settle(is_event(event), notes)
-        } else {
-            Ok(())
-        }
-    }
-
-    /// Takes an event, except that its notes are not added to the sums. Fails if memory runs out, or a number of the
-    /// run does not fit.
-    fn tell(
-        &mut self,
-        alloc: Global,
-        event: Event<'_>,
-        notes: &mut Vec<Note>,
-    ) -> Result<(), RunError>
-        ensures takes { OnOk result (run_state self.new
-            ≡ (spec.told (run_state self.old) (event_view event.entry)).run) }
-        ensures tells { OnOk result (map note_view notes.new.items ≡ map note_view notes.old.items
-            ++ (spec.told (run_state self.old) (event_view event.entry)).notes) }
-    {
-        match event {
-            Event::SuiteStarted { key, test_count } => {
-                self.on_suite_started(alloc, key, test_count, notes)
-            }
-            Event::SuiteEnded(end) => self.on_suite_ended(alloc, end, notes),
-            Event::TestStarted { name } => self.on_test_started(alloc, name),
-            Event::TestEnded {
-                name,
-                result: end,
-                details,
-            } => self.on_test_ended(alloc, name, end, details, notes),
-            Event::TestSlow { name } => {
-                self.on_test_slow(name);
-                Ok(())
-            }
-            Event::Other => Ok(()),
-            Event::Heading { suite, path } => self.on_heading(alloc, suite, path),
-            Event::CargoFailed { failure, plain, .. } => {
-                self.on_cargo_failed(alloc, failure, plain)
-            }
-            Event::Print { line, plain } => self.on_print(alloc, line, plain),
-            Event::Damaged { text } => {
-                push_damaged(alloc, text, notes)?;
-                Ok(())
-            }
-        }
-    }
-
     /// Adds a disagreement if no line of the file is an event of a harness and nothing failed or disagreed in it,
     /// unless its command ended with status 0 or was not started.
     fn push_no_event(&self, notes: &mut Vec<Note>) -> Result<(), AllocError>
@@ -395,20 +316,6 @@ impl TestRun {
         }
         let file = first_name(&self.file_names)?;
         push_disagreement(Disagreement::NoEvent { file }, notes)
-    }
-
-    /// Stores that a line is an event of a harness, and the number of causes if cargo reports a failure outside
-    /// of a suite.
-    fn mark(&mut self, alloc: Global, event: Event<'_>)
-        ensures { run_state self.new ≡ spec.marked (run_state self.old) (event_view event.entry) }
-    {
-        forget_prints(alloc, event, &mut self.recent);
-        if is_event(event) {
-            self.has_event = true;
-        }
-        if matches!(event, Event::CargoFailed { .. }) && self.suites.list.is_empty() {
-            self.causes_at_cargo = self.causes;
-        }
     }
 
     /// Adds notes to the sums. Fails if a sum does not fit.
@@ -456,15 +363,6 @@ impl TestRun {
     }
 }
 
-/// Forgets prints before an event after which they cannot say why cargo fails.
-fn forget_prints(alloc: Global, event: Event<'_>, prints: &mut LongestEnd)
-    ensures { lines_of prints.new ≡ (if is_after_report (event_view event.entry) then [] else lines_of prints.old) }
-{
-    if is_after_report(event) {
-        *prints = LongestEnd::new(alloc);
-    }
-}
-
 /// Returns the first of some names.
 fn first_name(names: &VecDeque<String>) -> Result<Option<String>, AllocError>
     ensures { IfOk result (λ name. text_view name ≡ slice_get (map string_bytes names.now.items) 0) }
@@ -484,29 +382,4 @@ fn is_new(disagreement: &Disagreement) -> bool
         disagreement,
         Disagreement::Cargo(_) | Disagreement::NoEvent { .. }
     )
-}
-
-/// Returns true if a line is an event of a harness.
-fn is_event(event: Event<'_>) -> bool
-    ensures { result ≡ is_event (event_view event.entry) }
-{
-    match event {
-        Event::SuiteStarted { .. }
-        | Event::SuiteEnded(_)
-        | Event::TestStarted { .. }
-        | Event::TestEnded { .. }
-        | Event::TestSlow { .. }
-        | Event::Other => true,
-        Event::CargoFailed { .. }
-        | Event::Heading { .. }
-        | Event::Print { .. }
-        | Event::Damaged { .. } => false,
-    }
-}
-
-/// Returns true if an event, a heading or a failure comes after all that may say why cargo failed before it.
-fn is_after_report(event: Event<'_>) -> bool
-    ensures { result ≡ is_after_report (event_view event.entry) }
-{
-    !matches!(event, Event::Print { .. } | Event::Damaged { .. })
 }

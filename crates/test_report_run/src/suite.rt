@@ -238,20 +238,6 @@ impl Suite {
         Ok(())
     }
 
-    /// Returns the key of the suite.
-    pub(crate) fn key(&self) -> &Option<String>
-        ensures { result.now ≡ self.now.name.key }
-    {
-        &self.name.key
-    }
-
-    /// Returns the text of this name.
-    pub(crate) fn shown_text(&self) -> Option<&str>
-        ensures { option_map (λ name. name.now) result ≡ suite_name (state_of self.now) }
-    {
-        self.name.shown_text()
-    }
-
     /// Returns true if the suite has this key, or has no key if `key` is `None`.
     pub(crate) fn has_key(&self, key: Option<&str>) -> bool
         ensures { result ≡ has_key (option_map (λ key. key.now) key.entry) (state_of self.now) }

@@ -134,7 +134,7 @@ fn add(
     ensures others { OnOk result ((other : Option (List ℕ)) → other ≢ text_view suite.value.name.key
         → number_at keys.new other ≡ number_at keys.old other) }
 {
-    keys.insert(suite.key(), number)?;
+    keys.insert(&suite.name.key, number)?;
     numbers.push(number)?;
     list.push(suite)?;
     Ok(())

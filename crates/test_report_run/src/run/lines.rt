@@ -120,7 +120,7 @@ impl TestRun {
 fn lacks_events(has_event: bool, lacked_events: bool, line: &str) -> bool
     ensures { result ≡ (not has_event && (not lacked_events && starts_with nat_eq line.now (codes "error: test failed"))) }
 {
-    !has_event && (!lacked_events && begins(line.as_bytes(), TESTS_FAILED))
+    !has_event && (!lacked_events && line.as_bytes().starts_with(TESTS_FAILED))
 }
 
 /// Returns the name that a heading gives the suites after it: the known name of the binary with this path, or else `own`.
@@ -146,13 +146,6 @@ fn known_name<'a>(names: &'a SuiteNames, path: Option<&str>) -> Option<&'a str>
         (λ p. lookup (bytes_eq p) (names_of names.now)) (option_map (λ path. path.now) path.entry) }
 {
     names.get(path?)
-}
-
-/// Returns true if a line begins with this text.
-fn begins(line: &[u8], front: &[u8]) -> bool
-    ensures { result ≡ starts_with nat_eq line.now front.now }
-{
-    line.starts_with(front)
 }
 
 /// Adds the disagreement of a damaged line that says a failure.

@@ -81,8 +81,8 @@ impl TestRun {
         ensures { option_map (λ name. name.now) result ≡ spec.name_of_suite (run_state self.now) number }
     {
         match self.suites.place_of_number(number) {
-            Some(at) => self.suites.list[at].shown_text(),
-            None => self.outside.shown_text(),
+            Some(at) => self.suites.list[at].name.shown_text(),
+            None => self.outside.name.shown_text(),
         }
     }
 }

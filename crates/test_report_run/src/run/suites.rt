@@ -11,7 +11,7 @@ ghost use Rattle.test_report_run.specs.Suite.{cancelled_by, has_key, joined_by, 
 
 use crate::disagreements::push_disagreement;
 use crate::early::Ending;
-use crate::error::{RunError, one_more};
+use crate::error::RunError;
 use crate::run::TestRun;
 use crate::suite::Suite;
 use std::alloc::{AllocError, Global};

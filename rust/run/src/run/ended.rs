@@ -8,17 +8,10 @@ use crate::run::counted::count;
 use crate::run::error::{RunError, one_more};
 use crate::run::said::time_sum;
 use crate::run::suite::{FlakyTest, OverTest, Suite};
+use crate::run::texts::owned;
 
 /// The reason of the harness for a test that ran out of time.
 const TIME_LIMIT: &str = "time limit exceeded";
-
-/// Copies a text that may be absent.
-fn owned(text: Option<&str>) -> Option<String> {
-    match text {
-        Some(text) => Some(String::from(text)),
-        None => None,
-    }
-}
 
 /// Returns the failure of a test, from the line that says that it failed.
 fn failure_of(details: TestDetails<'_>) -> Failure {

@@ -1,6 +1,7 @@
 // Made by tools/erase from crates/test_report_run/src/headings.rt. Do not edit.
 //! The names that headings give suites.
 
+use crate::run::texts::owned;
 use std::collections::BTreeMap;
 
 /// The headings of a file: the paths that each name had.
@@ -56,13 +57,5 @@ impl Paths {
         let number = self.numbers.get(&path).copied().unwrap_or(next);
         self.numbers.insert(path, number);
         number
-    }
-}
-
-/// Returns a text that may be absent, as an owned text.
-fn owned(text: Option<&str>) -> Option<String> {
-    match text {
-        Some(text) => Some(String::from(text)),
-        None => None,
     }
 }

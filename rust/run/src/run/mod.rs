@@ -28,4 +28,5 @@ pub mod status;
 mod suite;
 mod suite_name;
 pub mod suite_names;
+mod texts;
 mod totals;

@@ -6,7 +6,7 @@ use crate::run::error::{RunError, one_more};
 use crate::run::prints::Prints;
 
 /// The line before the one in which cargo names the cause of its failure.
-const CAUSED_BY: &[u8] = b"Caused by:";
+const CAUSED_BY: &str = "Caused by:";
 
 /// The place of a print of a file.
 #[derive(Clone, Copy, Debug, Default)]
@@ -39,7 +39,7 @@ pub(crate) struct Cause {
 }
 
 /// How far the search for the cause of the last failure is.
-#[derive(Clone, Copy, Debug, PartialEq, Eq)]
+#[derive(Clone, Copy, Debug)]
 enum Stage {
     /// There is nothing to search for: no failure came, the cause is known, or a heading came after the failure.
     Over,
@@ -86,7 +86,7 @@ impl Others {
     /// Takes a print. Fails if memory runs out, or the number of prints does not fit.
     pub(crate) fn on_print(&mut self, line: &str, plain: &str) -> Result<(), RunError> {
         self.prints.take_print(line)?;
-        if self.stage == Stage::CausedBy {
+        if matches!(self.stage, Stage::CausedBy) {
             self.keep_cause(line, plain);
         }
         self.stage = stage_after(self.stage, plain);
@@ -177,21 +177,13 @@ impl Others {
 /// Returns how far the search for a cause is after a print.
 fn stage_after(stage: Stage, plain: &str) -> Stage {
     match stage {
-        Stage::Failed if says_caused_by(plain.as_bytes()) => Stage::CausedBy,
+        Stage::Failed if says_caused_by(plain) => Stage::CausedBy,
         Stage::Failed => Stage::Failed,
         Stage::Over | Stage::CausedBy => Stage::Over,
     }
 }
 
 /// Returns true if a line is `Caused by:`, perhaps after spaces.
-fn says_caused_by(plain: &[u8]) -> bool {
-    match spaces_end(plain) {
-        Some(at) => plain[at..] == CAUSED_BY[..],
-        None => false,
-    }
-}
-
-/// Returns the offset of the first byte that is not a space.
-fn spaces_end(text: &[u8]) -> Option<usize> {
-    text.iter().position(|byte| *byte != b' ')
+fn says_caused_by(plain: &str) -> bool {
+    plain.trim_start_matches(' ') == CAUSED_BY
 }

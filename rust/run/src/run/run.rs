@@ -2,6 +2,7 @@
 //! A test run that is followed line by line.
 
 mod command;
+mod events;
 mod lines;
 mod programs;
 pub mod progress;
@@ -19,7 +20,6 @@ use crate::run::longest_end::LongestEnd;
 use crate::run::open_suites::OpenSuites;
 use crate::run::others::Others;
 use crate::run::run::command::says_more;
-use crate::run::run::lines::push_damaged;
 use crate::run::running::Running;
 use crate::run::status::exit_status;
 use crate::run::suite::Suite;
@@ -231,54 +231,6 @@ impl TestRun {
         self.totals.end(self.disagreements, self.cancels)
     }
 
-    /// Takes an event if there is one, and appends its notes.
-    fn take(&mut self, event: Option<Event<'_>>, notes: &mut Vec<Note>) -> Result<(), RunError> {
-        match event {
-            Some(event) => {
-                let mut told = self.on_event(event)?;
-                notes.append(&mut told);
-                Ok(())
-            }
-            None => Ok(()),
-        }
-    }
-
-    /// Makes the last failure of cargo known, if no line after this event can explain it.
-    fn settle_at(&mut self, event: Event<'_>, notes: &mut Vec<Note>) {
-        if is_after_report(event) {
-            self.settle(is_event(event), notes);
-        }
-    }
-
-    /// Takes an event, except that its notes are not added to the sums. Fails if memory runs out, or a number of the
-    /// run does not fit.
-    fn tell(&mut self, event: Event<'_>, notes: &mut Vec<Note>) -> Result<(), RunError> {
-        match event {
-            Event::SuiteStarted { key, test_count } => {
-                self.on_suite_started(key, test_count, notes)
-            }
-            Event::SuiteEnded(end) => self.on_suite_ended(end, notes),
-            Event::TestStarted { name } => self.on_test_started(name),
-            Event::TestEnded {
-                name,
-                result: end,
-                details,
-            } => self.on_test_ended(name, end, details, notes),
-            Event::TestSlow { name } => {
-                self.on_test_slow(name);
-                Ok(())
-            }
-            Event::Other => Ok(()),
-            Event::Heading { suite, path } => self.on_heading(suite, path),
-            Event::CargoFailed { failure, plain, .. } => self.on_cargo_failed(failure, plain),
-            Event::Print { line, plain } => self.on_print(line, plain),
-            Event::Damaged { text } => {
-                push_damaged(text, notes);
-                Ok(())
-            }
-        }
-    }
-
     /// Adds a disagreement if no line of the file is an event of a harness and nothing failed or disagreed in it,
     /// unless its command ended with status 0 or was not started.
     fn push_no_event(&self, notes: &mut Vec<Note>) {
@@ -288,18 +240,6 @@ impl TestRun {
         }
         let file = first_name(&self.file_names);
         push_disagreement(Disagreement::NoEvent { file }, notes);
-    }
-
-    /// Stores that a line is an event of a harness, and the number of causes if cargo reports a failure outside
-    /// of a suite.
-    fn mark(&mut self, event: Event<'_>) {
-        forget_prints(event, &mut self.recent);
-        if is_event(event) {
-            self.has_event = true;
-        }
-        if matches!(event, Event::CargoFailed { .. }) && self.suites.list.is_empty() {
-            self.causes_at_cargo = self.causes;
-        }
     }
 
     /// Adds notes to the sums. Fails if a sum does not fit.
@@ -338,13 +278,6 @@ impl TestRun {
     }
 }
 
-/// Forgets prints before an event after which they cannot say why cargo fails.
-fn forget_prints(event: Event<'_>, prints: &mut LongestEnd) {
-    if is_after_report(event) {
-        *prints = LongestEnd::new();
-    }
-}
-
 /// Returns the first of some names.
 fn first_name(names: &VecDeque<String>) -> Option<String> {
     match names.front() {
@@ -360,25 +293,4 @@ fn is_new(disagreement: &Disagreement) -> bool {
         disagreement,
         Disagreement::Cargo(_) | Disagreement::NoEvent { .. }
     )
-}
-
-/// Returns true if a line is an event of a harness.
-fn is_event(event: Event<'_>) -> bool {
-    match event {
-        Event::SuiteStarted { .. }
-        | Event::SuiteEnded(_)
-        | Event::TestStarted { .. }
-        | Event::TestEnded { .. }
-        | Event::TestSlow { .. }
-        | Event::Other => true,
-        Event::CargoFailed { .. }
-        | Event::Heading { .. }
-        | Event::Print { .. }
-        | Event::Damaged { .. } => false,
-    }
-}
-
-/// Returns true if an event, a heading or a failure comes after all that may say why cargo failed before it.
-fn is_after_report(event: Event<'_>) -> bool {
-    !matches!(event, Event::Print { .. } | Event::Damaged { .. })
 }

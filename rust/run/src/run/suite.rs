@@ -174,16 +174,6 @@ impl Suite {
         Ok(())
     }
 
-    /// Returns the key of the suite.
-    pub(crate) fn key(&self) -> &Option<String> {
-        &self.name.key
-    }
-
-    /// Returns the text of this name.
-    pub(crate) fn shown_text(&self) -> Option<&str> {
-        self.name.shown_text()
-    }
-
     /// Returns true if the suite has this key, or has no key if `key` is `None`.
     pub(crate) fn has_key(&self, key: Option<&str>) -> bool {
         match (&self.name.key, key) {

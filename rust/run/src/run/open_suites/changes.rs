@@ -93,7 +93,7 @@ fn add(
     numbers: &mut Vec<usize>,
     keys: &mut KeyNumbers,
 ) {
-    keys.insert(suite.key(), number);
+    keys.insert(&suite.name.key, number);
     numbers.push(number);
     list.push(suite);
 }

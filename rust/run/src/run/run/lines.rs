@@ -82,7 +82,7 @@ impl TestRun {
 /// Returns true if a line says that tests failed, no line of the file was an event of a harness, and no other failure of
 /// cargo in the file lacked events.
 fn lacks_events(has_event: bool, lacked_events: bool, line: &str) -> bool {
-    !has_event && (!lacked_events && begins(line.as_bytes(), TESTS_FAILED))
+    !has_event && (!lacked_events && line.as_bytes().starts_with(TESTS_FAILED))
 }
 
 /// Returns the name that a heading gives the suites after it: the known name of the binary with this path, or else `own`.
@@ -97,11 +97,6 @@ fn shown_name(names: &SuiteNames, path: Option<&str>, own: String) -> Rc<String>
 /// Returns the name that is known of the suites of the binary with this path.
 fn known_name<'a>(names: &'a SuiteNames, path: Option<&str>) -> Option<&'a str> {
     names.get(path?)
-}
-
-/// Returns true if a line begins with this text.
-fn begins(line: &[u8], front: &[u8]) -> bool {
-    line.starts_with(front)
 }
 
 /// Adds the disagreement of a damaged line that says a failure.

@@ -66,8 +66,8 @@ impl TestRun {
     /// Returns the name of the open suite with a number, or `None` for the tests outside of a suite.
     fn name_of_suite(&self, number: Option<usize>) -> Option<&str> {
         match self.suites.place_of_number(number) {
-            Some(at) => self.suites.list[at].shown_text(),
-            None => self.outside.shown_text(),
+            Some(at) => self.suites.list[at].name.shown_text(),
+            None => self.outside.name.shown_text(),
         }
     }
 }
