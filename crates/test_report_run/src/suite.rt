@@ -4,7 +4,7 @@ ghost use Rattle.std.specs.Prelude.{◌≡◌, ◌==◌, ◌<◌, ◌++◌, ◌�
 ghost use Rattle.test_report_events.specs.Event.{suite_end_view};
 ghost use Rattle.test_report_run_notes.specs.Note.{note_view, outcome_view, test_view, text_view};
 ghost use Rattle.test_report_run.specs.Others.{no_others, others_view};
-ghost use Rattle.test_report_run.specs.Suite.{has_key, joined_by, outside_start, over_view, state_of, suite_name, suite_start, tally_of, test_note, test_of, with_line, with_start};
+ghost use Rattle.test_report_run.specs.Suite.{has_key, joined_by, outside_start, over_view, state_of, suite_start, tally_of, test_note, test_of, with_line, with_start};
 
 use crate::error::{RunError, one_more};
 use crate::flaky::FlakyTests;

@@ -1,9 +1,8 @@
 //! What opens, finds and removes open suites.
 
-ghost use Rattle.std.specs.Prelude.{◌≡◌, ◌≢◌, ◌<◌, ◌+◌, ◌++◌, ◌∷◌, [], ℕ, List, Option, Some, None, OnOk, length, nat_lt, option_map, slice_get, string_bytes};
+ghost use Rattle.std.specs.Prelude.{◌≡◌, ◌<◌, ◌+◌, ◌++◌, ◌∷◌, [], Some, None, OnOk, length, nat_lt, option_map, slice_get, string_bytes};
 ghost use Rattle.std.specs.List.{position, remove};
 ghost use Rattle.test_report_run_notes.specs.Note.{text_view};
-ghost use Rattle.test_report_run.specs.Keys.{number_at};
 ghost use Rattle.test_report_run.specs.OpenSuites.{states_in, suites_of};
 ghost use Rattle.test_report_run.specs.Others.{others_view};
 ghost use Rattle.test_report_run.specs.Running.{is_same};
@@ -14,7 +13,7 @@ use crate::open_suites::OpenSuites;
 use crate::open_suites::keys::KeyNumbers;
 use crate::others::Others;
 use crate::suite::Suite;
-use std::alloc::{AllocError, Global};
+use std::alloc::Global;
 use std::rc::Rc;
 
 impl OpenSuites {
@@ -57,19 +56,12 @@ impl OpenSuites {
         let number = one_more(self.started)?;
         let suite = Suite::new(alloc, number, key, heading, test_count, others)?;
         let boxed = Box::new(alloc, suite)?;
-        let OpenSuites {
-            mut list,
-            mut numbers,
-            mut keys,
-            started: _,
-        } = std::mem::replace(self, OpenSuites::new(alloc));
-        add(boxed, number, &mut list, &mut numbers, &mut keys)?;
-        *self = OpenSuites {
-            list,
-            numbers,
-            keys,
-            started: number,
-        };
+        let mut open = std::mem::replace(self, OpenSuites::new(alloc));
+        open.keys.insert(&boxed.name.key, number)?;
+        open.numbers.push(number)?;
+        open.list.push(boxed)?;
+        open.started = number;
+        *self = open;
         Ok(())
     }
 
@@ -118,24 +110,4 @@ impl OpenSuites {
     {
         self.numbers.binary_search(&number?).ok()
     }
-}
-
-/// Adds a suite with this number to others, to their numbers, and to their numbers by their keys.
-fn add(
-    suite: Box<Suite>,
-    number: usize,
-    list: &mut Vec<Box<Suite>>,
-    numbers: &mut Vec<usize>,
-    keys: &mut KeyNumbers,
-) -> Result<(), AllocError>
-    ensures list { OnOk result (list.new.items ≡ list.old.items ++ suite ∷ []) }
-    ensures numbers { OnOk result (numbers.new.items ≡ numbers.old.items ++ number ∷ []) }
-    ensures set { OnOk result (number_at keys.new (text_view suite.value.name.key) ≡ Some number) }
-    ensures others { OnOk result ((other : Option (List ℕ)) → other ≢ text_view suite.value.name.key
-        → number_at keys.new other ≡ number_at keys.old other) }
-{
-    keys.insert(&suite.name.key, number)?;
-    numbers.push(number)?;
-    list.push(suite)?;
-    Ok(())
 }

@@ -49,21 +49,12 @@ impl Running {
             order,
             slow: false,
         };
-        let Running {
-            mut tests,
-            mut names,
-            mut suites,
-            started: _,
-        } = std::mem::replace(self, Running::new(alloc));
-        names.insert(alloc, name, order)?;
-        suites.insert((suite, order))?;
-        tests.insert(order, test)?;
-        *self = Running {
-            tests,
-            names,
-            suites,
-            started,
-        };
+        let mut running = std::mem::replace(self, Running::new(alloc));
+        running.names.insert(alloc, name, order)?;
+        running.suites.insert((suite, order))?;
+        running.tests.insert(order, test)?;
+        running.started = started;
+        *self = running;
         Ok(())
     }
 

@@ -36,19 +36,12 @@ impl OpenSuites {
         let number = one_more(self.started)?;
         let suite = Suite::new(number, key, heading, test_count, others);
         let boxed = Box::new(suite);
-        let OpenSuites {
-            mut list,
-            mut numbers,
-            mut keys,
-            started: _,
-        } = std::mem::replace(self, OpenSuites::new());
-        add(boxed, number, &mut list, &mut numbers, &mut keys);
-        *self = OpenSuites {
-            list,
-            numbers,
-            keys,
-            started: number,
-        };
+        let mut open = std::mem::replace(self, OpenSuites::new());
+        open.keys.insert(&boxed.name.key, number);
+        open.numbers.push(number);
+        open.list.push(boxed);
+        open.started = number;
+        *self = open;
         Ok(())
     }
 
@@ -83,17 +76,4 @@ impl OpenSuites {
     pub(crate) fn place_of_number(&self, number: Option<usize>) -> Option<usize> {
         self.numbers.binary_search(&number?).ok()
     }
-}
-
-/// Adds a suite with this number to others, to their numbers, and to their numbers by their keys.
-fn add(
-    suite: Box<Suite>,
-    number: usize,
-    list: &mut Vec<Box<Suite>>,
-    numbers: &mut Vec<usize>,
-    keys: &mut KeyNumbers,
-) {
-    keys.insert(&suite.name.key, number);
-    numbers.push(number);
-    list.push(suite);
 }

@@ -32,21 +32,12 @@ impl Running {
             order,
             slow: false,
         };
-        let Running {
-            mut tests,
-            mut names,
-            mut suites,
-            started: _,
-        } = std::mem::replace(self, Running::new());
-        names.insert(name, order);
-        suites.insert((suite, order));
-        tests.insert(order, test);
-        *self = Running {
-            tests,
-            names,
-            suites,
-            started,
-        };
+        let mut running = std::mem::replace(self, Running::new());
+        running.names.insert(name, order);
+        running.suites.insert((suite, order));
+        running.tests.insert(order, test);
+        running.started = started;
+        *self = running;
         Ok(())
     }
 

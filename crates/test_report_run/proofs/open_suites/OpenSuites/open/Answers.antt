@@ -11,10 +11,10 @@ use Rattle.test_report_run.specs.declared.open_suites.OpenSuites.{OpenSuites}
 use Rattle.test_report_run.specs.declared.suite.Suite.{Suite}
 use Rattle.test_report_run.proofs.open_suites.OpenSuites.open.Goals as goal
 
-pub invariant_of-drop : goal.invariant_of-drop
-invariant_of-drop c =
-    let o = c.replace-list.result in
-    let same : o ≡ c.args.self.now = c.replace-list.ensures.value in
+pub invariant_of-open : goal.invariant_of-open
+invariant_of-open c =
+    let o = c.replace-open.result in
+    let same : o ≡ c.args.self.now = c.replace-open.ensures.value in
     let key = text_view c.args.key in
     let n = c.in_ok-number.number in
     let suites = o.list.items in
@@ -25,15 +25,16 @@ invariant_of-drop c =
     let suite : b.value ≡ c.in_ok-suite.suite = c.in_ok-boxed.ensures.ok in
     let number : b.value.name.number ≡ Some n = ap (λ (s : Suite). s.name.number) suite ∙ ap (λ (s : SuiteState). s.number) c.in_ok-suite.ensures in
     let own : text_view b.value.name.key ≡ key = ap (λ (s : Suite). text_view s.name.key) suite ∙ ap (λ (s : SuiteState). s.key) c.in_ok-suite.ensures in
+    let within : text_view c.deref.result.now.name.key ≡ key = ap (λ (s : Suite). text_view s.name.key) c.deref.ensures ∙ own in
     let none : position (has_key key) (suites_of o) ≡ None = ap (λ (x : OpenSuites). position (has_key key) (suites_of x)) same ∙ c.requires in
     let long = as-many suites ns o.numbered in
     record {
-      numbered = rw (c.in_ok-add.ensures.numbers, c.in_ok-add.ensures.list) (pushed-number suites b ns n o.numbered number);
-      rising = rw c.in_ok-add.ensures.numbers (pushed-rises o.started n ns o.rising o.below over);
-      below = rw c.in_ok-add.ensures.numbers (pushed-below o.started n ns o.below over);
-      keyed = rw (c.in_ok-add.ensures.numbers, c.in_ok-add.ensures.list, pushed-key suites b, own)
-          (pushed-keyed (number_at o.keys) (number_at c.add.new.keys) (keys_in suites) ns key n o.keyed
+      numbered = rw (c.in_ok-push.ensures.items, c.in_ok-push-2.ensures.items) (pushed-number suites b ns n o.numbered number);
+      rising = rw c.in_ok-push.ensures.items (pushed-rises o.started n ns o.rising o.below over);
+      below = rw c.in_ok-push.ensures.items (pushed-below o.started n ns o.below over);
+      keyed = rw (c.in_ok-push.ensures.items, c.in_ok-push-2.ensures.items, pushed-key suites b, own)
+          (pushed-keyed (number_at o.keys) (number_at c.insert.new.self) (keys_in suites) ns key n o.keyed
           (length-map suites (λ x. text_view x.value.name.key) ∙ long)
-          (λ i within. rw (keys-states suites) (keys-apart (suites_of o) key i none (omega (arith, within, long-of o))))
-          (rw (← own) c.in_ok-add.ensures.set) (λ other is. c.in_ok-add.ensures.others other (rw own is)));
+          (λ i below. rw (keys-states suites) (keys-apart (suites_of o) key i none (omega (arith, below, long-of o))))
+          (rw (← within) c.in_ok-insert.ensures.set) (λ other is. c.in_ok-insert.ensures.others other (rw within is)));
     }

@@ -11,11 +11,11 @@ use Rattle.test_report_run.specs.declared.running.Running.{Running}
 use Rattle.test_report_run.specs.declared.running.RunningTest.{RunningTest}
 use Rattle.test_report_run.proofs.running.Running.begin.Goals as goal
 
-pub invariant_of-drop : goal.invariant_of-drop
-invariant_of-drop c =
-    let run = c.replace-tests.result in
+pub invariant_of-running : goal.invariant_of-running
+invariant_of-running c =
+    let run = c.replace-running.result in
     let order = c.args.self.now.started in
-    let since : run.started ≡ order = ap (λ (r : Running). r.started) c.replace-tests.ensures.value in
+    let since : run.started ≡ order = ap (λ (r : Running). r.started) c.replace-running.ensures.value in
     let under : (n : ℕ) → IsSome (get nat_cmp run.tests n) → n < order = λ n found. rw (sym since) (run.below n found) in
     let test : RunningTest = record { name = c.in_ok-from_str.field-0; suite = c.args.suite; order = order; slow = false } in
     let started : c.in_ok-started.started ≡ order + 1 = search rules in
