@@ -15,6 +15,6 @@ pub mod Named
 pub mod OpenSteps
 pub mod OrderSteps
 pub mod Runs
-pub mod Spaces
+mod Spaces
 pub mod Takes
 pub mod Views

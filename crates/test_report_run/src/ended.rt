@@ -128,7 +128,10 @@ impl Suite {
             (test_end_view [] ended.Ok details.entry)) }
     {
         let output = owned(alloc, details.stdout)?;
-        let copy = test.duplicate()?;
+        let copy = OverTest {
+            name: test.name.clone()?,
+            ..*test
+        };
         let note = self.test_note(copy, TestOutcome::Passed { output })?;
         notes.push(Note::Flaky(note))?;
         Ok(())

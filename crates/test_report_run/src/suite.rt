@@ -41,22 +41,6 @@ pub(crate) struct OverTest {
     pub(crate) cancel: Option<CancelReason>,
 }
 
-impl OverTest {
-    /// Returns the test once more.
-    pub(crate) fn duplicate(&self) -> Result<OverTest, AllocError>
-        ensures { IfOk result (λ copy. over_view copy ≡ over_view self.now) }
-    {
-        Ok(OverTest {
-            name: self.name.clone()?,
-            attempts: self.attempts,
-            time: self.time,
-            ended: self.ended,
-            slow: self.slow,
-            cancel: self.cancel,
-        })
-    }
-}
-
 /// A test that passed after several attempts. The last line of its suite may still count it as failed.
 #[derive(Drop)]
 pub(crate) struct FlakyTest {

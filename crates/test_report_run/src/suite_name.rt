@@ -85,20 +85,12 @@ impl SuiteName {
         if self.first_test.is_some() {
             return Ok(());
         }
-        let shown = self.shown_by(alloc, name)?;
+        let given = given_name(&self.key, &self.heading, Some(name));
+        let shown = shown_name(alloc, self.number, given)?;
         let first_test = String::from_str(alloc, name)?;
         self.first_test = Some(first_test);
         self.shown = shown;
         Ok(())
-    }
-
-    /// Returns the name that is shown if the first test of the suite has this name.
-    fn shown_by(&self, alloc: Global, first_test: &str) -> Result<Option<Rc<String>>, AllocError>
-        ensures { IfOk result (λ shown. option_map (λ n. string_bytes n.value) shown
-            ≡ name_by self.now.number (text_view self.now.key) (option_map (λ n. string_bytes n.value) self.now.heading) (Some first_test.now)) }
-    {
-        let given = given_name(&self.key, &self.heading, Some(first_test));
-        shown_name(alloc, self.number, given)
     }
 
     /// Returns the name, or `None` for the tests outside of a suite.

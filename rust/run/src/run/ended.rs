@@ -80,7 +80,10 @@ impl Suite {
     /// Adds the note that a test passed after several attempts.
     fn push_flaky(&self, test: &OverTest, details: TestDetails<'_>, notes: &mut Vec<Note>) {
         let output = owned(details.stdout);
-        let copy = test.duplicate();
+        let copy = OverTest {
+            name: test.name.clone(),
+            ..*test
+        };
         let note = self.test_note(copy, TestOutcome::Passed { output });
         notes.push(Note::Flaky(note));
     }

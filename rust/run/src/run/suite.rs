@@ -35,20 +35,6 @@ pub(crate) struct OverTest {
     pub(crate) cancel: Option<CancelReason>,
 }
 
-impl OverTest {
-    /// Returns the test once more.
-    pub(crate) fn duplicate(&self) -> OverTest {
-        OverTest {
-            name: self.name.clone(),
-            attempts: self.attempts,
-            time: self.time,
-            ended: self.ended,
-            slow: self.slow,
-            cancel: self.cancel,
-        }
-    }
-}
-
 /// A test that passed after several attempts. The last line of its suite may still count it as failed.
 #[derive(Clone, Debug)]
 pub(crate) struct FlakyTest {

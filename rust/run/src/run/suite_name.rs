@@ -58,16 +58,11 @@ impl SuiteName {
         if self.first_test.is_some() {
             return;
         }
-        let shown = self.shown_by(name);
+        let given = given_name(&self.key, &self.heading, Some(name));
+        let shown = shown_name(self.number, given);
         let first_test = String::from(name);
         self.first_test = Some(first_test);
         self.shown = shown;
-    }
-
-    /// Returns the name that is shown if the first test of the suite has this name.
-    fn shown_by(&self, first_test: &str) -> Option<Rc<String>> {
-        let given = given_name(&self.key, &self.heading, Some(first_test));
-        shown_name(self.number, given)
     }
 
     /// Returns the name, or `None` for the tests outside of a suite.
