@@ -1,226 +1,143 @@
-//! The output of a child process, described for reporters.
+//! The output of a child process, described for reporters, and the lists of its errors.
 
-use crate::chain::{causes, has_message};
-use crate::outcome::Outcome;
+use crate::chain::error;
+use crate::print;
 use bytes::Bytes;
 use run_events::chain::SerializableError;
 use run_events::child::{
-    ChildError, ChildErrorDescription, ChildExecutionOutput, ChildExecutionOutputDescription,
-    ChildFdError, ChildOutput, ChildOutputDescription, ChildSingleOutput, ChildSplitOutput,
-    ChildStartError, ErrorList, LiveSpec, Refused,
+    ChildError, ChildExecutionOutput, ChildExecutionOutputDescription, ChildFdError, ChildOutput,
+    ChildSingleOutput, ChildSplitOutput, ChildStartError, ErrorList, LiveSpec, Refused,
 };
-use run_events::results::{
-    AbortDescription, AbortStatus, ExecutionResult, ExecutionResultDescription, FailureDescription,
-    FailureStatus,
-};
+use run_events::results::{AbortStatus, ExecutionResult, FailureStatus, UnitKind};
+use run_events::unit_error::{UnitError, UnitErrorDescription};
 use std::alloc::{AllocError, Global};
 
 /// The description of the output of a child process.
-pub(crate) type Description = ChildExecutionOutputDescription<LiveSpec>;
+type Description = ChildExecutionOutputDescription<LiveSpec>;
 
-/// An owned description. A drop of it is one call in a proof.
-pub(crate) struct OwnedDescription {
-    pub(crate) output: Description,
-}
-
-impl Drop for OwnedDescription {
-    fn drop(self) {
-        let OwnedDescription { output } = self;
-        drop(output);
-    }
-}
-
-impl OwnedDescription {
-    /// Describes output, with the name of the signal that ended the process. Fails if memory runs out, and gives back
-    /// what it was passed.
-    fn new(
-        alloc: Global,
-        output: ChildExecutionOutput,
-        name: Option<String>,
-    ) -> Result<OwnedDescription, Refused> {
-        let output = Description::from_output(alloc, output, name)?;
-        Ok(OwnedDescription { output })
-    }
-}
-
-/// The result of the process.
-const END: ExecutionResult = ExecutionResult::Fail {
+/// The result of a process that a signal ended.
+pub(crate) const ABORT: ExecutionResult = ExecutionResult::Fail {
     failure_status: FailureStatus::Abort(AbortStatus::UnixSignal(15)),
     leaked: true,
 };
 
-/// Returns an error with this message and no cause.
-fn error(alloc: Global, message: String) -> Result<SerializableError, AllocError> {
-    SerializableError::from_message_and_causes(alloc, message, Vec::new(alloc))
+/// Describes a process that was not started.
+pub(crate) fn not_started<R: AllocGlobal + Print>(rt: &R) -> Result<(), AllocError> {
+    let source = error(rt.alloc(), 0, 0)?;
+    let output = ChildExecutionOutput::StartError(ChildStartError::Spawn(source));
+    describe(rt, output, None);
+    Ok(())
 }
 
-/// Returns this many errors in reading from a process, whose messages are those of [`causes`].
+/// Describes a process that ended with this status, with this many errors in reading from it.
+pub(crate) fn ended<R: AllocGlobal + Print>(
+    rt: &R,
+    status: ExecutionResult,
+    count: u32,
+) -> Result<(), AllocError> {
+    let name = String::from_str(rt.alloc(), "TERM")?;
+    let errors = errors(rt.alloc(), count)?;
+    let stderr = ChildSingleOutput::from(Bytes::from_static(b"Error: e"));
+    let output = ChildExecutionOutput::Output {
+        result: Some(status),
+        output: ChildOutput::Split(ChildSplitOutput {
+            stdout: None,
+            stderr: Some(stderr),
+        }),
+        errors,
+    };
+    describe(rt, output, Some(name));
+    Ok(())
+}
+
+/// Returns this many errors in reading from a process.
 fn errors(alloc: Global, count: u32) -> Result<Option<ErrorList<ChildError>>, AllocError> {
     let mut errors = Vec::new(alloc);
-    for message in causes(alloc, count)? {
-        errors.push(ChildError::Fd(ChildFdError::ReadStdout(error(alloc, message)?)))?;
+    for number in 0..count {
+        let source = error(alloc, number, 0)?;
+        errors.push(ChildError::Fd(ChildFdError::ReadStdout(source)))?;
     }
     Ok(ErrorList::new("reading", errors))
 }
 
-/// Returns the output of a process that a signal ended, with this many errors in reading from it.
-fn ended(alloc: Global, count: u32) -> Result<ChildExecutionOutput, AllocError> {
-    let errors = errors(alloc, count)?;
-    let stderr = Bytes::copy_from_slice(alloc, b"Error: e")?;
-    Ok(ChildExecutionOutput::Output {
-        result: Some(END),
-        output: ChildOutput::Split(ChildSplitOutput {
-            stdout: None,
-            stderr: Some(ChildSingleOutput::from(stderr)),
-        }),
-        errors,
-    })
-}
-
-/// Returns the description of [`ended`].
-pub(crate) fn described(alloc: Global, count: u32) -> Result<OwnedDescription, AllocError> {
-    let output = ended(alloc, count)?;
-    OwnedDescription::new(alloc, output, None)
-        .ok()
-        .ok_or(AllocError)
-}
-
-/// What a description must be.
-#[derive(Clone, Copy)]
-enum Wanted<'a> {
-    /// That of [`ended`], with the name of the signal and errors that have these messages.
-    Ended(&'a [String]),
-
-    /// That of a process that was not started, because of an error with the message `s`.
-    NotStarted,
-}
-
-/// Returns true if this is the result of [`ended`], with the name of the signal.
-fn is_end(end: &Option<ExecutionResultDescription>) -> bool {
-    match end {
-        Some(
-            ExecutionResultDescription::Fail {
-                failure: FailureDescription::Abort { abort },
-                leaked: true,
-            },
-        ) => is_term(abort),
-        _ => false,
+/// Describes output, and makes the lists of its errors. If memory runs out, what is given back is described.
+fn describe<R: AllocGlobal + Print>(rt: &R, output: ChildExecutionOutput, name: Option<String>) {
+    match Description::from_output(rt.alloc(), output, name) {
+        Ok(output) => describe_errors(rt, output),
+        Err(refused) => describe_again(rt, refused),
     }
 }
 
-/// Returns true if a process was ended by the signal 15, with its name.
-fn is_term(abort: &AbortDescription) -> bool {
-    match abort {
-        AbortDescription::UnixSignal {
-            signal: 15,
-            name: Some(name),
-        } => name.as_str() == "TERM",
-        _ => false,
+/// Describes what was given back because memory ran out.
+fn describe_again<R: AllocGlobal + Print>(rt: &R, refused: Refused) {
+    print(rt, "from-output", AllocError);
+    if let Ok(output) = Description::from_output(rt.alloc(), refused.output, refused.name) {
+        describe_errors(rt, output);
     }
 }
 
-/// Returns true if this is the captured output of [`ended`].
-fn is_captured(output: &ChildOutputDescription) -> bool {
-    match output {
-        ChildOutputDescription::Split {
-            stdout: None,
-            stderr: Some(stderr),
-        } => stderr.buf().as_slice() == b"Error: e".as_slice(),
-        _ => false,
-    }
+/// Makes the lists of the errors in output.
+fn describe_errors<R: AllocGlobal + Print>(rt: &R, output: Description) {
+    make_lists(rt, &output);
 }
 
-/// Returns true if an error is one in reading, with this message.
-pub(crate) fn is_read(error: Option<&ChildErrorDescription>, message: &str) -> bool {
-    match error {
-        Some(ChildErrorDescription::ReadStdout { source }) => has_message(Some(source), message),
-        _ => false,
+/// Makes the lists of the errors in output, and one list again.
+fn make_lists<R: AllocGlobal + Print>(rt: &R, output: &Description) {
+    if !UnitErrorDescription::can_describe(UnitKind::Test, output) {
+        return;
     }
+    let errors = UnitErrorDescription::new(UnitKind::Test, output);
+    print_list(rt, "all-errors", errors.all_error_list(rt.alloc()));
+    print_list(
+        rt,
+        "exec-fail-errors",
+        errors.exec_fail_error_list(rt.alloc()),
+    );
+    print_list(
+        rt,
+        "child-process-errors",
+        errors.child_process_error_list(rt.alloc()),
+    );
+    print_list(rt, "all-errors", errors.all_error_list(rt.alloc()));
 }
 
-/// Returns true if there are errors in reading with these messages, or no list if there are none.
-fn are_read(errors: &Option<ErrorList<ChildErrorDescription>>, messages: &[String]) -> bool {
-    let Some(errors) = errors else {
-        return messages.is_empty();
-    };
-    let mut left = errors.iter();
-    let mut are_read = errors.description() == "reading";
-    for message in messages {
-        are_read = are_read && is_read(left.next(), message.as_str());
-    }
-    are_read && left.next().is_none()
-}
-
-/// Returns true if this is the description that is wanted.
-fn is_wanted(described: &Description, wanted: Wanted<'_>) -> bool {
-    match (described, wanted) {
-        (
-            ChildExecutionOutputDescription::Output {
-                result,
-                output,
-                errors,
-            },
-            Wanted::Ended(messages),
-        ) => is_end(result) && is_captured(output) && are_read(errors, messages),
-        (ChildExecutionOutputDescription::StartError(error), Wanted::NotStarted) => {
-            has_message(Some(error.source()), "s")
+/// Prints the list that a call returned.
+fn print_list<R: Print>(
+    rt: &R,
+    name: &str,
+    list: Result<Option<ErrorList<UnitError<'_>>>, AllocError>,
+) {
+    match list {
+        Ok(Some(list)) => {
+            print(rt, name, list.description());
+            print_errors(rt, &list);
         }
-        _ => false,
+        Ok(None) => print(rt, name, "no errors"),
+        Err(AllocError) => print(rt, name, AllocError),
     }
 }
 
-/// Returns true if output is described as wanted. Fails if memory runs out, and gives back what it was passed.
-fn is_described(
-    alloc: Global,
-    output: ChildExecutionOutput,
-    name: Option<String>,
-    wanted: Wanted<'_>,
-) -> Result<bool, Refused> {
-    let described = OwnedDescription::new(alloc, output, name)?;
-    Ok(is_wanted(&described.output, wanted))
-}
-
-/// Returns true if what a call gave back is described as wanted: output and name are unchanged, so their description is
-/// the same as at first.
-fn is_described_again(alloc: Global, refused: Refused, wanted: Wanted<'_>) -> bool {
-    is_described(alloc, refused.output, refused.name, wanted).unwrap_or(false)
-}
-
-/// Returns the outcome of describing output, with the name of the signal that ended the process.
-fn outcome_of(
-    alloc: Global,
-    output: ChildExecutionOutput,
-    name: String,
-    wanted: Wanted<'_>,
-) -> Outcome {
-    match is_described(alloc, output, Some(name), wanted) {
-        Ok(is_right) => Outcome::RightAnswer.only_if(is_right),
-        Err(refused) => Outcome::OutOfMemory.only_if(is_described_again(alloc, refused, wanted)),
+/// Prints the number of errors, and each error if there are few.
+fn print_errors<R: Print>(rt: &R, list: &ErrorList<UnitError<'_>>) {
+    print(rt, "  errors", list.len());
+    if list.len() < 10 {
+        for error in list.iter() {
+            print_error(rt, error);
+        }
     }
 }
 
-/// Returns the outcome of describing the output of [`ended`]. Fails if memory runs out before the call.
-fn ended_outcome(alloc: Global, count: u32) -> Result<Outcome, AllocError> {
-    let messages = causes(alloc, count)?;
-    let name = String::from_str(alloc, "TERM")?;
-    let output = ended(alloc, count)?;
-    Ok(outcome_of(alloc, output, name, Wanted::Ended(messages.as_slice())))
+/// Prints an error, with its cause.
+fn print_error<R: Print>(rt: &R, error: &UnitError<'_>) {
+    let cause = cause_of(error);
+    let _ = println!(rt; "  {error}, cause: {cause:?}");
 }
 
-/// Describes output with two errors.
-pub(crate) fn from_output(alloc: Global) -> Result<Outcome, AllocError> {
-    ended_outcome(alloc, 2)
-}
-
-/// Describes output without errors, and an error in starting a process. This takes no memory.
-pub(crate) fn from_output_without_errors(alloc: Global) -> Result<Outcome, AllocError> {
-    let source = error(alloc, String::from_str(alloc, "s")?)?;
-    let outcome = ended_outcome(alloc, 0)?;
-    Ok(outcome.only_if(is_start_error_described(alloc, source)))
-}
-
-/// Returns true if an error in starting a process is described as wanted.
-fn is_start_error_described(alloc: Global, source: SerializableError) -> bool {
-    let output = ChildExecutionOutput::StartError(ChildStartError::Spawn(source));
-    is_described(alloc, output, None, Wanted::NotStarted).unwrap_or(false)
+/// Returns the cause of an error, if it has one.
+fn cause_of<'a>(error: &UnitError<'a>) -> Option<&'a SerializableError> {
+    match error {
+        UnitError::Start(error) => Some(error.source()),
+        UnitError::Output(error) => Some(error.source()),
+        UnitError::Abort(_) | UnitError::Slice(_) => None,
+    }
 }

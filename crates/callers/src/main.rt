@@ -1,98 +1,58 @@
-//! Makes calls that allocate, and prints the outcome of each. `tools/allocation-failures` runs this program
-//! with a small library loaded before it that makes one allocation fail.
+//! Makes calls that allocate, and prints what each returns. `tools/allocation-failures` runs this program with a
+//! small library loaded before it that makes one allocation fail.
 //!
-//! `callers NAME` makes one call, and `callers all` makes each once. A call allocates its arguments
-//! first, and nothing is allocated after it. The calls with large values test that these succeed.
-//! A line has the name of the call and its outcome:
-//!
-//! - `not reached`: an allocation failed before the call;
-//! - `out of memory`: the call returned this error, and what it borrowed is unchanged;
-//! - `right answer`: the call returned the right result;
-//! - `wrong answer`: anything else.
-//!
-//! The exit status is 1 if an answer is wrong. A name of no call is a wrong answer.
+//! A line has the name of a call and what it returned. Below the line of a list are its errors, with spaces before
+//! them. If memory runs out in a call, its line says so, and the program goes on. Then it makes a call with what the
+//! first call borrowed or gave back, so a change of this shows. If memory runs out before a call, the program ends.
 #![tactic(auto)]
 
-use crate::lists::{Kinds, list_of_errors, no_errors};
-use crate::outcome::Outcome;
-use std::alloc::{AllocError, Global};
-use std::process::ExitCode;
-use std::{env, io};
+use crate::child::ABORT;
+use run_events::progress::{StressCount, StressProgress};
+use run_events::results::ExecutionResult;
+use std::alloc::AllocError;
+use std::fmt::Debug;
+use std::time::Duration;
+use uuid::Uuid;
 
 mod chain;
 mod child;
-mod lists;
-mod outcome;
-mod sub_run;
 
-/// The names of the calls.
-const NAMES: [&str; 14] = [
-    "from-message-and-causes",
-    "to-value",
-    "from-value",
-    "from-other-values",
-    "long-error",
-    "from-output",
-    "from-output-without-errors",
-    "all-errors",
-    "exec-fail-errors",
-    "child-process-errors",
-    "no-errors",
-    "many-errors",
-    "many-exec-fail-errors",
-    "unique-id",
-];
+/// The progress at the last sub-run that can be counted.
+const PROGRESS: StressProgress = StressProgress::Count {
+    total: StressCount::Infinite,
+    elapsed: Duration::ZERO,
+    completed: u32::MAX,
+};
 
-/// Makes the arguments of the named call, then the call. Fails if memory runs out before the call.
-fn outcome_of(alloc: Global, name: &str) -> Result<Outcome, AllocError> {
-    match name {
-        "from-message-and-causes" => chain::from_message_and_causes(alloc),
-        "to-value" => chain::to_value(alloc),
-        "from-value" => chain::from_value(alloc),
-        "from-other-values" => chain::from_other_values(alloc),
-        "long-error" => chain::long_error(alloc),
-        "from-output" => child::from_output(alloc),
-        "from-output-without-errors" => child::from_output_without_errors(alloc),
-        "all-errors" => list_of_errors(alloc, Kinds::All, 2),
-        "exec-fail-errors" => list_of_errors(alloc, Kinds::ExecFail, 2),
-        "child-process-errors" => list_of_errors(alloc, Kinds::ChildProcess, 2),
-        "no-errors" => Ok(no_errors(alloc)),
-        "many-errors" => list_of_errors(alloc, Kinds::All, 2_000),
-        "many-exec-fail-errors" => list_of_errors(alloc, Kinds::ExecFail, 2_000),
-        "unique-id" => Ok(sub_run::unique_id(alloc)),
-        _ => Ok(Outcome::WrongAnswer),
-    }
+/// Prints what a call returned, after the name of the call. A line that cannot be written is missing.
+fn print<R: Print, T: Debug + Drop>(rt: &R, name: &str, returned: T) {
+    let _ = println!(rt; "{name}: {returned:?}");
 }
 
-/// Makes the named calls, and prints the name and outcome of each. Returns true unless an answer is wrong.
-fn make<R: AllocGlobal + Print>(rt: &R, names: &[&str]) -> io::Result<bool> {
-    let mut are_right = true;
-    for name in names {
-        let outcome = outcome_of(rt.alloc(), name).unwrap_or(Outcome::NotReached);
-        let text = outcome.text();
-        println!(rt; "{name}: {text}")?;
-        are_right = are_right && outcome.is_right();
-    }
-    Ok(are_right)
+/// Makes the id of the last sub-run that can be counted, twice.
+fn unique_id<R: AllocGlobal + Print>(rt: &R) {
+    let progress = PROGRESS;
+    print(
+        rt,
+        "unique-id",
+        progress.unique_id(rt.alloc(), Uuid::from_u128(1)),
+    );
+    print(
+        rt,
+        "unique-id",
+        progress.unique_id(rt.alloc(), Uuid::from_u128(1)),
+    );
 }
 
-/// Makes what a word asks for: one call, or all.
-fn run<R: AllocGlobal + Print>(rt: &R, word: &str) -> io::Result<ExitCode> {
-    let are_right = if word == "all" {
-        make(rt, &NAMES)?
-    } else {
-        make(rt, &[word])?
-    };
-    Ok(ExitCode::from(u8::from(!are_right)))
-}
-
-fn main(rt: HostRuntime) -> io::Result<ExitCode> {
-    let Ok(mut words) = env::args(&rt) else {
-        println!(rt; "not reached")?;
-        return Ok(ExitCode::FAILURE);
-    };
-    match words.nth(1) {
-        Some(word) => run(&rt, word.as_str()),
-        None => run(&rt, ""),
-    }
+/// Makes each call. Those with large values are last.
+fn main(rt: HostRuntime) -> Result<(), AllocError> {
+    unique_id(&rt);
+    chain::to_value(&rt)?;
+    chain::from_values(&rt)?;
+    child::not_started(&rt)?;
+    child::ended(&rt, ExecutionResult::Pass, 0)?;
+    child::ended(&rt, ABORT, 0)?;
+    child::ended(&rt, ABORT, 2)?;
+    child::ended(&rt, ABORT, 2_000)?;
+    chain::long_error(&rt)
 }
