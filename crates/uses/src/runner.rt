@@ -6,7 +6,7 @@ ghost use Rattle.std.specs.List.{filter_map, range_with_len};
 ghost use Rattle.run_events.specs.Counters.{TestUnit, stats_of, unit_view};
 ghost use Rattle.run_events.specs.Described.{described_result};
 ghost use Rattle.run_events.specs.Attempts.{attempts_of, view_of};
-ghost use Rattle.uses.specs.Runner.{HasStatuses, last_stderr, left_by, name_of_kind, numbered_of, stats_of_kind, told_name, told_stats, told_unit, unit_of_kind, view_of_attempts};
+ghost use Rattle.uses.specs.Runner.{HasStatuses, last_stderr, left_by, numbered_of, told_name, told_stats, told_unit, view_of_attempts};
 
 use crate::of_run_events::{EndedAttempt, epoch, push_status};
 use run_events::attempts::{ExecuteStatus, ExecutionStatuses, RetryData};
@@ -88,34 +88,24 @@ pub fn test_finished(
     ensures name { IfOk result (λ event. told_name event ≡ Some test_name.entry.now) }
     ensures stats { IfOk result (λ event. told_stats event ≡ Some current_stats) }
 {
-    let kind = TestEventKind::TestFinished {
-        stress_index: None,
-        test_instance: TestInstanceId {
-            binary_id: "demo",
-            test_name,
-        },
-        success_output: TestOutputDisplay::Never,
-        failure_output: TestOutputDisplay::Immediate,
-        junit_store_success_output: false,
-        junit_store_failure_output: true,
-        junit_flaky_fail_status: JunitFlakyFailStatus { name: "failure" },
-        run_statuses,
-        current_stats,
-        running: 0,
-    };
-    event_of(alloc, kind)
-}
-
-/// Returns an event of this kind.
-fn event_of(alloc: Global, kind: TestEventKind<'_>) -> Result<ReporterEvent<'_>, AllocError>
-    ensures unit { IfOk result (λ event. told_unit event ≡ unit_of_kind kind.entry) }
-    ensures name { IfOk result (λ event. told_name event ≡ name_of_kind kind.entry) }
-    ensures stats { IfOk result (λ event. told_stats event ≡ stats_of_kind kind.entry) }
-{
     let event = TestEvent {
         timestamp: epoch(),
         elapsed: Duration::ZERO,
-        kind,
+        kind: TestEventKind::TestFinished {
+            stress_index: None,
+            test_instance: TestInstanceId {
+                binary_id: "demo",
+                test_name,
+            },
+            success_output: TestOutputDisplay::Never,
+            failure_output: TestOutputDisplay::Immediate,
+            junit_store_success_output: false,
+            junit_store_failure_output: true,
+            junit_flaky_fail_status: JunitFlakyFailStatus { name: "failure" },
+            run_statuses,
+            current_stats,
+            running: 0,
+        },
     };
     Ok(ReporterEvent::Test(Box::new(alloc, event)?))
 }

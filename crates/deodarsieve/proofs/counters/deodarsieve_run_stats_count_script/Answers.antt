@@ -15,3 +15,10 @@ returns-clause-counter_full c =
     let counted : script_counted c.args.stats.now c.args.script.now ≡ Some (with_script c.in-Some.counters c.in-Some-described.ended) = search rules in
     let room : ScriptCountersFit (with_script c.in-Some.counters c.in-Some-described.ended) = search rules in
     rw counted (λ same. search rules, λ full. absurd (full room))
+
+-- they do not fit
+pub returns-then-is_err-clause-counter_full : goal.returns-then-is_err-clause-counter_full
+returns-then-is_err-clause-counter_full c =
+    let counted : script_counted c.args.stats.now c.args.script.now ≡ Some (with_script c.in-Some.counters c.in-Some-described.ended) = search rules in
+    let full : ScriptCountersFit (with_script c.in-Some.counters c.in-Some-described.ended) → ⊥ = λ fits. search rules in
+    rw counted (λ _. full, λ _. refl)
