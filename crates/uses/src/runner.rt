@@ -107,7 +107,14 @@ pub fn test_finished(
             running: 0,
         },
     };
-    Ok(ReporterEvent::Test(Box::new(alloc, event)?))
+    Ok(ReporterEvent::Test(boxed(alloc, event)?))
+}
+
+/// Returns a value in a box. If memory runs out, the value is dropped.
+fn boxed<T: Drop>(alloc: Global, value: T) -> Result<Box<T>, AllocError>
+    ensures { IfOk result (λ boxed. boxed.value ≡ value) }
+{
+    Ok(Box::new(alloc, value)?)
 }
 
 /// Returns the finished unit of an event, borrowed.
