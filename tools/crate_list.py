@@ -3,6 +3,7 @@
 `python3 tools/crate_list.py` prints a line for each crate: its name, and those of the crates below it.
 """
 
+import graphlib
 import re
 from pathlib import Path
 
@@ -33,6 +34,23 @@ def below(crate):
         graph[name] = uses[name]
         left += [word for word in uses[name] if word not in graph]
     return graph
+
+
+def heaviest_chains(weights):
+    """Returns for each crate the heaviest list of crates that ends with it, of which each one uses the one before it.
+
+    `weights` has the weight of each crate.
+    """
+    uses, found = used_crates(), {}
+    for crate in graphlib.TopologicalSorter(uses).static_order():
+        below = max((found[name] for name in uses[crate]), key=lambda chain: weight_of(chain, weights), default=[])
+        found[crate] = [*below, crate]
+    return found
+
+
+def weight_of(chain, weights):
+    """Returns the weight of a list of crates."""
+    return sum(weights[crate] for crate in chain)
 
 
 def is_static(crate):

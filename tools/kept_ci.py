@@ -4,9 +4,10 @@ The current folder is a copy of the repository ORIGIN without what was built the
 crate from nothing and keeps no proof, and tries each must-fail edit by a check of its own. Here each crate except
 programs has a new folder, out/incremental, in which the prover keeps what it proves. So the crate is proved from nothing
 as well. A library is built with its proofs, and a verdict may say that it was reached over such a folder. The edits of a
-crate are tried by tools/must-fail over that folder, while other crates are proved. Each crate is proved by one process,
-and as many crates at the same time as there are processors and memory. All else is as in `rt ci`: the words that it
-refuses, contracts that no call can meet, both compilers, and the runs of programs.
+crate are tried by tools/must-fail over that folder, while other crates are proved. As many crates are proved at the same
+time as there are processors and memory, each by one process. Only the crates of the longest chain, for which the end of a
+run waits, are proved by as many processes as there are processors. All else is as in `rt ci`: the words that it refuses,
+contracts that no call can meet, both compilers, and the runs of programs.
 
 There are two forms of `rt`. One of them has a store of what earlier runs passed, and takes `--anew`. What this tool passes
 is then kept there for later runs of this tool, and not for a plain `rt ci`. With the other form each run proves all.
@@ -23,6 +24,7 @@ import sys
 from pathlib import Path
 
 import compiler
+import crate_list
 
 # What the prover adds to a verdict over such a folder.
 KEPT = " incremental=trusted"
@@ -83,6 +85,18 @@ class Edits:
                 self.kept.keep_tried(self.name_of(name), *self.results[name])
 
 
+def longest_chain(size_of):
+    """Returns the crates of the longest chain, by the sizes of crates."""
+    sizes = {crate: size_of(crate) for crate in crate_list.used()}
+    return max(crate_list.heaviest_chains(sizes).values(), key=lambda chain: crate_list.weight_of(chain, sizes))
+
+
+def with_jobs(command, jobs):
+    """Returns a command of the prover with another number of processes."""
+    place = command.index("--jobs") + 1
+    return [*command[:place], str(jobs), *command[place + 1 :]]
+
+
 def end_checks_on_signals(must_fail):
     """Has a signal that ends this process first end the checks of edits."""
 
@@ -97,15 +111,17 @@ def end_checks_on_signals(must_fail):
 
 def main(origin, *words):
     """Runs `rt ci` and returns its exit status."""
-    # By its own estimate of memory, `rt` leaves processors idle, or gives several to one crate. Each process of a crate
+    # By its own estimate of memory, `rt` leaves processors idle, or gives several to any crate. Each process of a crate
     # reads all libraries, which takes more processor time in all.
-    os.environ.setdefault("RT_JOBS", str(compiler.lanes()))
+    lanes = compiler.lanes()
+    os.environ.setdefault("RT_JOBS", str(lanes))
     compiler.PROVED = "rlib"
     rt, must_fail = loaded(f"{compiler.kit()}/bin/rt"), loaded(f"{compiler.TOP}/tools/must-fail")
     prove = rt.Crate.prove
     rt.rtlib.VERDICT = Verdict(rt.rtlib.VERDICT)
     # `rt` takes no file with another name for an edit, and that fails nothing.
     rt.edits_of = lambda crate: (must_fail.paths_of(crate.name), [])
+    longest = longest_chain(must_fail.size_of)
 
     def prove_and_keep(crate, *commands):
         if crate.is_program:
@@ -114,7 +130,9 @@ def main(origin, *words):
         shutil.rmtree(compiler.kept(crate.name), ignore_errors=True)
         # A library that holds only its statements cannot be built over such a folder.
         plain = [[word for word in command if word != "--statements"] for command in commands]
-        return prove(crate, *([*command, "--incremental", compiler.kept(crate.name)] for command in plain))
+        jobs = lanes if crate.name in longest else 1
+        kept = ["--incremental", compiler.kept(crate.name)]
+        return prove(crate, *([*with_jobs(command, jobs), *kept] for command in plain))
 
     def add_edits(tasks, crate, paths, _first, waits, is_well, kept):
         edits = Edits(rt, must_fail, kept, crate, [os.path.basename(path) for path in paths])
