@@ -8,16 +8,19 @@ use Rattle.test_report_programs.proofs.run.ProgramRun.end_program.Goals as goal
 
 pub returns-then-is_zero : goal.returns-then-is_zero
 returns-then-is_zero c =
-    ended-zero (record { end = c.args.end; stderr = c.args.stderr.now }) (step (programs_state c.args.self.now) (map note_view c.args.notes.now.items)) _
+    ended-zero (record { end = c.args.end; stderr = c.args.stderr.now })
+    (step (programs_state c.args.self.now) (map note_view c.args.notes.now.items)) _
     c.in_ok-settle.ensures
     (seen-none program_state c.settle.new.self.program _ _ c.is_none.ensures c.if-is_none.true) (sym c.is_zero.ensures ∙ c.if-is_zero.true)
 
 pub returns-then-is_none : goal.returns-then-is_none
 returns-then-is_none c =
     on_ok_weaker c.tell_fault.result
-    (ended-unstarted (record { end = c.args.end; stderr = c.args.stderr.now }) (step (programs_state c.args.self.now) (map note_view c.args.notes.now.items)) _ _
+    (ended-unstarted (record { end = c.args.end; stderr = c.args.stderr.now })
+    (step (programs_state c.args.self.now) (map note_view c.args.notes.now.items)) _ _
     c.in_ok-settle.ensures
-    (seen-none program_state c.settle.new.self.program _ _ c.is_none.ensures c.if-is_none.true) (sym c.is_zero.ensures ∙ c.if-is_zero.false)) c.tell_fault.ensures
+    (seen-none program_state c.settle.new.self.program _ _ c.is_none.ensures c.if-is_none.true)
+    (sym c.is_zero.ensures ∙ c.if-is_zero.false)) c.tell_fault.ensures
 
 pub returns-then-may_be_cancelled : goal.returns-then-may_be_cancelled
 returns-then-may_be_cancelled c =
@@ -30,6 +33,8 @@ returns-then-may_be_cancelled c =
 pub returns : goal.returns
 returns c =
     on_ok_weaker c.program_over.result
-    (ended-over (record { end = c.args.end; stderr = c.args.stderr.now }) (step (programs_state c.args.self.now) (map note_view c.args.notes.now.items)) _ _
+    (ended-over (record { end = c.args.end; stderr = c.args.stderr.now })
+    (step (programs_state c.args.self.now) (map note_view c.args.notes.now.items)) _ _
     c.in_ok-settle.ensures
-    (seen-none program_state c.settle.new.self.program _ _ c.is_none.ensures c.if-is_none.false) (sym c.may_be_cancelled.ensures ∙ c.if-may_be_cancelled.false)) c.program_over.ensures
+    (seen-none program_state c.settle.new.self.program _ _ c.is_none.ensures c.if-is_none.false)
+    (sym c.may_be_cancelled.ensures ∙ c.if-may_be_cancelled.false)) c.program_over.ensures
