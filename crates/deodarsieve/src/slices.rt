@@ -1,6 +1,6 @@
 //! The part of a test's output that explains its failure, and the last head of a panic message.
 
-ghost use Rattle.std.specs.Prelude.{◌≡◌, ◌≢◌, ◌≤◌, ◌<◌, ◌+◌, ◌*◌, ◌^◌, ◌↔◌, ℕ, List, length, Option, IsFalse, IsTrue, is_some};
+ghost use Rattle.std.specs.Prelude.{◌≡◌, ◌≢◌, ◌≤◌, ◌<◌, ◌+◌, ◌*◌, ◌↔◌, ℕ, List, length, Option, IsFalse, IsTrue, is_some};
 ghost use Rattle.c_values.specs.Layout.{LiesWithin, captured, head_in, reads_out, slice_out};
 ghost use Rattle.output_slice.specs.Extraction.{Extract, IsCappedExtract, IsExtract};
 ghost use Rattle.output_slice.specs.Head.{IsHead};

@@ -1,5 +1,5 @@
 -- Texts that are shown one after another.
-use Rattle.std.proofs.Common.{◌≡◌, ◌∙◌, ◌&&◌, ◌||◌, ◌==◌, ◌⊎◌, inl, inr, refl, sym, subst, ap, ℕ, Bool, true, false, true≢false, not, List, [], ◌∷◌, ◌++◌, append-nil, codes, if◌then◌else◌}
+use Rattle.std.proofs.Common.{◌≡◌, ◌∙◌, ◌&&◌, ◌||◌, ◌==◌, ◌⊎◌, inl, inr, refl, sym, subst, ap, ℕ, Bool, true, false, true≢false, not, List, [], ◌∷◌, ◌++◌, codes, if◌then◌else◌}
 use Rattle.std.proofs.lemmas.Bool.{and_parts}
 use Rattle.std.proofs.lemmas.List.Elements.{All-append, All-head, All-tail}
 use Rattle.std.proofs.lemmas.List.Folds.{list_all-append}
@@ -7,7 +7,7 @@ use Rattle.std.specs.Char.{is_whitespace}
 use Rattle.std.specs.List.{All, flat_map, list_all}
 use Rattle.report_text.specs.Command.{IsCommand, commands}
 use Rattle.report_text.specs.Line.{front_after, front_run, is_command, is_inline, is_shown}
-use Rattle.report_text.specs.Safe.{Absent, EndsBlank, IsQuiet, Safe, TextsJoin}
+use Rattle.report_text.specs.Safe.{Absent, IsQuiet, TextsJoin}
 use Rattle.report_text.specs.Sequence.{IsClean, IsPiece, link_mark, visible}
 use Rattle.report_text.specs.declared.line.Front.{Front}
 use Rattle.report_text.specs.declared.line.Front.TheVariants.{White, Colon, Inside, Command}

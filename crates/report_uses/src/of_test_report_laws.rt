@@ -1,6 +1,6 @@
 //! The caller that the page on calling `test_report_laws` shows.
 
-ghost use Rattle.std.specs.Prelude.{◌≡◌, ◌↔◌, ◌∷◌, [], IfOk, IsTrue, List, flat_map, map};
+ghost use Rattle.std.specs.Prelude.{◌↔◌, ◌∷◌, [], IfOk, IsTrue, List, flat_map, map};
 ghost use Rattle.std.specs.List.{AllZip};
 ghost use Rattle.test_report_events.specs.Event.{EventView};
 ghost use Rattle.test_report_events.specs.Line.{LineSays};

@@ -1,6 +1,6 @@
 //! The parser of templates.
 
-ghost use Rattle.std.specs.Prelude.{◌≡◌, ◌++◌, IfOk, Some, None, map, string_bytes, [], ◌∷◌, option_map};
+ghost use Rattle.std.specs.Prelude.{◌≡◌, IfOk, Some, None, map, string_bytes, [], option_map};
 ghost use Rattle.template.specs.Parse as spec;
 ghost use Rattle.template.specs.Parse.{parsed_view, parsing_view};
 ghost use Rattle.template.specs.Template.{parts_view, part_view};
