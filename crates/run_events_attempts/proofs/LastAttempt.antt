@@ -1,6 +1,7 @@
 -- The last attempt of a test decides its view, and the view decides its levels.
-use Rattle.std.proofs.Common.{◌≡◌, ◌-◌, ◌<◌, List, [], ◌∷◌, ◌++◌, length, get_or, take, drop, drop-cons, refl, ap, sym, ◌∙◌, arith, lt-ltb}
+use Rattle.std.proofs.Common.{◌≡◌, suc, ◌-◌, ◌<◌, List, [], ◌∷◌, ◌++◌, length, get_or, take, drop, drop-cons, refl, ap, sym, ◌∙◌, arith, lt-ltb}
 use Rattle.std.specs.Prelude.{Some}
+use Rattle.std.proofs.Math.Seq.{take-length, take-suc}
 use Rattle.std.proofs.lemmas.Bool.{or_right}
 use Rattle.std.proofs.lemmas.List.{get_or_push, length_push, take_rest}
 use Rattle.std.proofs.lemmas.Option.{slice_get_read}
@@ -16,6 +17,27 @@ use Rattle.run_events_attempts.specs.declared.attempts.statuses.ExecutionStatuse
 -- a list is its first element and the rest
 pub first-rest : {X : Type 0} (xs : List X) (x : X) → 0 < length xs → x ≡ get_or xs 0 x → xs ≡ x ∷ take (length xs - 1) (drop 1 xs)
 first-rest xs x some is = drop-cons xs 0 x some ∙ ap (λ y. y ∷ drop 1 xs) (sym is) ∙ ap (λ ys. x ∷ ys) (sym (take_rest xs 1))
+
+-- a list of one element
+pub only-one : {X : Type 0} (xs : List X) (x : X) → length xs ≡ 1 → x ≡ get_or xs 0 x → xs ≡ x ∷ []
+only-one [] x one is = absurd (omega arith)
+only-one (y ∷ []) x one is = ap (λ z. z ∷ []) (sym is)
+only-one (y ∷ z ∷ zs) x one is = absurd (omega arith)
+
+-- a list is all before its last element and that element
+pub prior-last : {X : Type 0} (xs : List X) (x : X) → 0 < length xs → x ≡ get_or xs (length xs - 1) x
+    → xs ≡ take (length xs - 1) xs ++ x ∷ []
+prior-last xs x some is =
+    let all : suc (length xs - 1) ≡ length xs = omega arith in
+    sym (take-length xs) ∙ ap (λ n. take n xs) (sym all) ∙ take-suc xs (length xs - 1) x (omega arith)
+    ∙ ap (λ y. take (length xs - 1) xs ++ y ∷ []) (sym is)
+
+-- the first and the last element of a list of fewer than two are the same
+pub same-ends : {X : Type 0} (xs : List X) (x y : X) → 0 < length xs → length xs < 2 → x ≡ get_or xs 0 x
+    → y ≡ get_or xs (length xs - 1) y → x ≡ y
+same-ends [] x y some few is-x is-y = absurd (omega arith)
+same-ends (z ∷ []) x y some few is-x is-y = is-x ∙ sym is-y
+same-ends (z ∷ w ∷ ws) x y some few is-x is-y = absurd (omega arith)
 
 -- the element at the last position is the last one
 pub last-at : {X : Type 0} (xs : List X) (x : X) → 0 < length xs → x ≡ get_or xs (length xs - 1) x → last_of xs ≡ Some x
