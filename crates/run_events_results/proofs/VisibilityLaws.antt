@@ -1,9 +1,10 @@
 -- Visibility with greater reasons.
-use Rattle.std.proofs.Common.{◌≡◌, ◌≢◌, ◌≤◌, ◌<◌, ◌⊎◌, ◌==◌, ◌&&◌, ◌||◌, ℕ, Bool, true, false, if◌then◌else◌, nat_lt, Option, Some, refl, sym, ◌∙◌, inl, inr, arith}
+use Rattle.std.proofs.Common.{◌≡◌, ◌≢◌, ◌≤◌, ◌<◌, ◌⊎◌, ◌==◌, ◌&&◌, ◌||◌, ℕ, Bool, true, false, if◌then◌else◌, nat_lt, Option, Some, refl, sym, ◌∙◌, inl, inr, arith, lt-ltb}
 use Rattle.std.proofs.lemmas.Bool.{and_parts, eqb-false, eqb-true, false≢true, false_from_ne_true, or_parts}
 use Rattle.std.proofs.lemmas.Bool.Decides.{nat_tests}
-use Rattle.run_events_results.specs.Visibility.{IsException, IsNoMoreVisible, Asked, severity, visibility, with_output}
+use Rattle.run_events_results.specs.Visibility.{IsException, IsNoMoreVisible, Asked, is_stopped, severity, visibility, with_output}
 use Rattle.run_events_results.specs.declared.levels.OutputOnTestFinished.{OutputOnTestFinished}
+use Rattle.run_events_results.specs.declared.levels.OutputStoreFinal.{OutputStoreFinal}
 use Rattle.run_events_results.specs.declared.levels.OutputStoreFinal.TheVariants.{No, Yes}
 use Rattle.run_events_results.specs.declared.results.CancelReason.{CancelReason}
 use Rattle.run_events_results.specs.declared.results.CancelReason.TheVariants as reason
@@ -61,6 +62,28 @@ row-line w _ _ _ = refl
 -- the line is the same with every reason
 pub line-stays : (w : Asked) (why : Option CancelReason) → (visibility w why).write_status_line ≡ w.line
 line-stays w why = row-line w _ _ _
+
+-- What is shown with a reason below a signal, with a signal, and with a reason above it, by the parts that the code computes.
+
+pub shown-below : (w : Asked) (why : Option CancelReason) (line at_once stored at_end : Bool) (store : OutputStoreFinal)
+    → is_stopped w why ≡ false → severity why < severity (Some reason.Signal)
+    → line ≡ w.line → at_once ≡ w.at_once → stored ≡ w.stored → at_end ≡ w.at_end → store ≡ (if stored then Yes at_end else No)
+    → record { write_status_line = line; show_immediate = at_once; store_final = store } ≡ visibility w why
+shown-below w why line at_once stored at_end store goes_on low l o s e is =
+    rw (goes_on, lt-ltb (severity why) (severity (Some reason.Signal)) low, is, l, o, s, e) refl
+
+pub shown-signal : (w : Asked) (why : Option CancelReason) (line at_once stored at_end : Bool) (store : OutputStoreFinal)
+    → severity why ≡ severity (Some reason.Signal)
+    → line ≡ w.line → at_once ≡ w.at_once → stored ≡ w.stored → at_end ≡ (if w.at_once then false else w.at_end)
+    → store ≡ (if stored then Yes at_end else No)
+    → record { write_status_line = line; show_immediate = at_once; store_final = store } ≡ visibility w why
+shown-signal w why line at_once stored at_end store signal l o s e is = rw (signal, is, l, o, s, e) refl
+
+pub hidden-above : (w : Asked) (why : Option CancelReason) (line : Bool) → severity (Some reason.Signal) < severity why → line ≡ w.line
+    → record { write_status_line = line; show_immediate = false; store_final = No } ≡ visibility w why
+hidden-above w (Some reason.Interrupt) line high l = rw l refl
+hidden-above w (Some reason.SecondSignal) line high l = rw l refl
+hidden-above w _ line high l = absurd (omega arith)
 
 -- Tests of numbers and of bools.
 
