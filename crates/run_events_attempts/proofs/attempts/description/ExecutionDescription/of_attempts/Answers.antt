@@ -1,9 +1,12 @@
 use Rattle.std.proofs.Common.{◌≡◌, ◌<◌, length, refl, ap, sym, ◌∙◌, arith}
 use Rattle.std.proofs.lemmas.Bool.Decides.{nat_tests}
-use Rattle.std.proofs.lemmas.List.{length-take}
+use Rattle.std.proofs.lemmas.List.{length-take, length-take-le}
 use Rattle.run_events_results.specs.Results.{succeeds}
 use Rattle.run_events_attempts.proofs.LastAttempt.{first-rest, last-at, only-one, same-ends, prior-last}
 use Rattle.run_events_attempts.proofs.attempts.description.ExecutionDescription.of_attempts.Goals as goal
+
+pub slice_bounds-prior_statuses-length : goal.slice_bounds-prior_statuses-length
+slice_bounds-prior_statuses-length g c = sym (length-take-le _ c.args.statuses.now (omega arith))
 
 pub returns-in-len1 : goal.returns-in-len1
 returns-in-len1 g c =
