@@ -1,9 +1,12 @@
 -- The line starts that a head crosses, and the taken heads on either side of a cut.
-use Rattle.output_slice.proofs.Words.{◌≡◌, ℕ, ◌+◌, ◌-◌, ◌<◌, ◌≤◌, inl, inr, List, length, get_or, arith, unwrap_or, Some, None, take, refl, codes, not, ◌==◌, [], ◌∷◌, ◌++◌, drop, length-append, length-drop, append-nil, add-zero, Option, map, get_or-append-add, cases_lt, nat_tests, IsLast, OccursAt, IsHead, IsLineStart, IsLineEnd, IsNextQuote, NoQuoteBetween, AllHeadsEndBy, IsLastOpening, IsOpening, MayAllBeCrossed, MayCross, length-map, slice_get-get_or, slice_get-map, slice_get_within, get_or_from_slice_get, HeadSpan, IsTaken, IsLastTaken, last_of}
+use Rattle.std.proofs.Common.{false}
+use Rattle.output_slice.proofs.Words.{◌≡◌, ◌∙◌, ap, take_rest, true, ℕ, ◌+◌, ◌-◌, ◌<◌, ◌≤◌, inl, inr, List, length, get_or, arith, unwrap_or, Some, None, take, refl, codes, not, ◌==◌, [], ◌∷◌, ◌++◌, drop, length-append, length-drop, append-nil, add-zero, Option, map, get_or-append-add, cases_lt, nat_tests, IsLast, OccursAt, IsHead, IsLineStart, IsLineEnd, IsNextQuote, NoQuoteBetween, AllHeadsEndBy, IsLastOpening, IsOpening, MayAllBeCrossed, MayCross, length-map, slice_get-get_or, slice_get-map, slice_get_within, get_or_from_slice_get, HeadSpan, IsTaken, IsLastTaken, last_of}
+use Rattle.std.proofs.lemmas.Bool.{false≢true}
 use Rattle.output_slice.specs.Cut.{IsCut, head_behind}
+use Rattle.output_slice.specs.Search.{IsLastFrom}
 use Rattle.output_slice.proofs.OccursLemmas.{occurs-back, text-passes, occurs-moved, part-same, reads}
 use Rattle.output_slice.proofs.HeadLemmas.{name-quiet, head-order, tail-plain, tail_cases}
-use Rattle.output_slice.proofs.TakenLemmas.{IsFirstHead, IsTaken-from_leftmost, Leftmost, leftmost-before, IsTaken-exists, leftmost-taken}
+use Rattle.output_slice.proofs.TakenLemmas.{IsFirstHead, IsTaken-from_leftmost, Leftmost, leftmost-before, IsLastTaken-head, IsTaken-exists, leftmost-taken}
 
 -- if a head contains a line feed, there is no quote from the start of its name up to the line feed
 pub head-feed : (b : List ℕ) (s e k : ℕ) → IsHead b s e → s ≤ k → k < e → get_or b k 0 ≡ 10 → (s + 8 ≤ k) × NoQuoteBetween b (s + 8) (k + 1)
@@ -144,17 +147,31 @@ last_of-behind c xs ys h e =
     let is = get_or_from_slice_get zs (length zs - 1) (head_behind c h) (head_behind c h) last in
     grind (arith, length-append, get_or-append-add, slice_get-get_or)
 
--- the last head after a cut is the last of all
-pub last-behind : (b : List ℕ) (c : ℕ) (h : HeadSpan) → IsCut b c → IsLastTaken (drop c b) (Some h) → IsLastTaken b (Some (head_behind c h))
-last-behind b c h cut last =
-    let front = IsTaken-exists (take c b) in
-    (front.0 ++ map (head_behind c) last.0, divides b c front.0 last.0 cut front.1 last.1, last_of-behind c front.0 last.0 h last.2)
+-- What the search in the bytes from a cut on finds, by its source, which is these bytes with a count.
+module _ (b : List ℕ) (c : ℕ) (source : List ℕ × ℕ) (cut : IsCut b c) (is : source ≡ (take (length b - c) (drop c b), 0)) where
+  searched : source.0 ≡ drop c b
+  searched = ap (λ s. s.0) is ∙ take_rest b c
 
--- if there is no head after a cut, the last one before it is the last of all
-pub last-before : (b : List ℕ) (c : ℕ) (found : Option HeadSpan) → IsCut b c → ((s e : ℕ) → ¬ IsHead (drop c b) s e)
-    → IsLastTaken (take c b) found → IsLastTaken b found
-last-before b c found cut none last =
-    (last.0, rw append-nil at (divides b c last.0 [] cut last.1 (IsTaken-from_leftmost (drop c b) [] (λ s e low. none s e))), last.2)
+  -- the last head after the cut is a head of all bytes
+  pub found-within : (h : HeadSpan) → IsLastTaken source.0 (Some h) → (c + h.start ≤ length b) × (c + h.stop ≤ length b)
+  found-within h last =
+      let head = IsLastTaken-head source.0 h last in
+      let order = head-order source.0 h.start h.stop head in
+      let size : length source.0 ≡ length b - c = ap length searched ∙ length-drop c b in
+      (omega (arith, head.ends, cut.within), omega (arith, head.ends, cut.within))
+
+  -- the last head after the cut is the last of all
+  pub found-behind : (h x : HeadSpan) → IsLastTaken source.0 (Some h) → x ≡ head_behind c h → IsLastTaken b (Some x)
+  found-behind h x last e =
+      let here = rw searched at last in
+      let front = IsTaken-exists (take c b) in
+      rw e (front.0 ++ map (head_behind c) here.0, divides b c front.0 here.0 cut front.1 here.1, last_of-behind c front.0 here.0 h here.2)
+
+  -- if there is no head after the cut, the last one before it is the last of all
+  pub found-before : (found : Option HeadSpan) → found ≡ None → ((s : ℕ) × (e : ℕ) × IsHead source.0 s e → false ≡ true) → IsLastFrom b c found
+  found-before found e none = rw e (λ last taken.
+      let nothing = IsTaken-from_leftmost (drop c b) [] (λ s e low head. false≢true (none (s, e, rw (← searched) at head))) in
+      (taken.0, rw append-nil at (divides b c taken.0 [] cut taken.1 nothing), taken.2))
 
 -- bytes after every head change nothing
 pub last-within-front : (b : List ℕ) (e : ℕ) (found : Option HeadSpan) → e ≤ length b → AllHeadsEndBy b e → IsLastTaken (take e b) found → IsLastTaken b found
