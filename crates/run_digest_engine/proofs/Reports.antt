@@ -1,12 +1,12 @@
 -- The text for runs, from their statistics; and the text for finished runs is the one for lines that describe them.
 use Rattle.std.proofs.Common.{◌≡◌, ℕ, ◌+◌, ◌<◌, Bool, List, [], ◌∷◌, ◌++◌, length, get_or, map, take, ◌≤◌, refl, ap, sym, ◌∙◌, arith, inl, inr}
 use Rattle.std.specs.List.{concat}
-use Rattle.std.proofs.lemmas.List.{append-nil, map_more}
-use Rattle.std.proofs.lemmas.List.Elements.{All-contains}
+use Rattle.std.proofs.lemmas.List.{append-nil, map-append, map_more}
+use Rattle.std.proofs.lemmas.List.Elements.{All-contains, All-push}
 use Rattle.std.proofs.lemmas.List.Folds.{concat-append}
 use Rattle.std.proofs.lemmas.Simd.{map-map}
 use Rattle.run_events_stats.specs.Outcome.{IsHighest, outcome_of, outcome_rank, run_summary}
-use Rattle.run_events_stats.specs.Summary.{summary_of}
+use Rattle.run_events_stats.specs.Summary.{FailuresFit, summary_of}
 use Rattle.run_events_stats.specs.declared.outcome.run_outcome.RunOutcome.{RunOutcome}
 use Rattle.run_events_stats.specs.declared.stats.FinishedRun.{FinishedRun}
 use Rattle.run_events_stats.specs.declared.stats.RunStats.{RunStats}
@@ -21,6 +21,15 @@ use Rattle.run_digest_engine.proofs.Readings.{one_reading}
 pub reports_more : (runs : List RunStats) (i : ℕ) (d : RunStats) → i < length runs
     → concat (map report_of (take (i + 1) runs)) ≡ concat (map report_of (take i runs)) ++ report_of (get_or runs i d)
 reports_more runs i d within = rw (map_more report_of runs i d within, concat-append, append-nil) refl
+
+-- the statistics of one more run
+pub stats_more : (runs : List FinishedRun) (i : ℕ) (run : FinishedRun) (all : List RunStats) (one : RunStats) → i < length runs
+    → run ≡ get_or runs i run → AreStats all (map run_view (take i runs)) → one ≡ run_stats (run_view run) → FailuresFit one
+    → AreStats (all ++ one ∷ []) (map run_view (take (i + 1) runs))
+stats_more runs i run all one within at so_far is fit = rw (map_more run_view runs i run within, ← at) record {
+  is = rw (map-append, is) (ap (λ stats. stats ++ run_stats (run_view run) ∷ []) so_far.is);
+  fit = All-push FailuresFit all one so_far.fit fit;
+}
 
 -- the text for runs, if there is not exactly one run
 pub reports_many : (runs : List RunStats) (o : RunOutcome) → ¬ (length runs ≡ 1) → concat (map report_of runs) ++ outcome_line o ≡ stats_reports runs o
