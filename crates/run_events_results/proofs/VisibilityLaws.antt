@@ -1,7 +1,11 @@
 -- Visibility with greater reasons.
-use Rattle.std.proofs.Common.{◌≡◌, ◌≢◌, ◌≤◌, ◌<◌, ◌⊎◌, ◌==◌, ◌&&◌, ◌||◌, ℕ, Bool, true, false, if◌then◌else◌, nat_lt, Option, Some, refl, sym, ◌∙◌, inl, inr, arith, lt-ltb}
+use Rattle.std.proofs.Common.{◌≡◌, ◌≢◌, ◌≤◌, ◌<◌, ◌⊎◌, ◌==◌, ◌&&◌, ◌||◌, ℕ, Bool, true, false, if◌then◌else◌, nat_le, nat_lt, rules, Option, Some, refl, sym, ◌∙◌, inl, inr, arith, lt-ltb}
+use Rattle.std.specs.Ordering.{partial_ge}
 use Rattle.std.proofs.lemmas.Bool.{and_parts, eqb-false, eqb-true, false≢true, false_from_ne_true, or_parts}
 use Rattle.std.proofs.lemmas.Bool.Decides.{nat_tests}
+use Rattle.run_events_results.specs.LevelRanks.{level_rank}
+use Rattle.run_events_results.specs.contracts.levels.StatusLevelPartialOrd.TheImpl.{ghosts}
+use Rattle.run_events_results.specs.declared.levels.StatusLevel.{StatusLevel}
 use Rattle.run_events_results.specs.Visibility.{IsException, IsNoMoreVisible, Asked, is_stopped, severity, visibility, with_output}
 use Rattle.run_events_results.specs.declared.levels.OutputOnTestFinished.{OutputOnTestFinished}
 use Rattle.run_events_results.specs.declared.levels.OutputStoreFinal.{OutputStoreFinal}
@@ -63,7 +67,16 @@ row-line w _ _ _ = refl
 pub line-stays : (w : Asked) (why : Option CancelReason) → (visibility w why).write_status_line ≡ w.line
 line-stays w why = row-line w _ _ _
 
--- What is shown with a reason below a signal, with a signal, and with a reason above it, by the parts that the code computes.
+-- a level is at least another one if and only if its rank is
+pub at-least : (a b : StatusLevel) → partial_ge ghosts.partial_cmp a b ≡ nat_le (level_rank b) (level_rank a)
+at-least a b = search rules
+
+-- What is shown of a stopped test, and with a reason below a signal, with a signal, and with a reason above it, by the parts
+-- that the code computes.
+
+pub hidden-stopped : (w : Asked) (why : Option CancelReason) (line : Bool) → is_stopped w why ≡ true → line ≡ w.line
+    → record { write_status_line = line; show_immediate = false; store_final = No } ≡ visibility w why
+hidden-stopped w why line stopped l = rw (stopped, l) refl
 
 pub shown-below : (w : Asked) (why : Option CancelReason) (line at_once stored at_end : Bool) (store : OutputStoreFinal)
     → is_stopped w why ≡ false → severity why < severity (Some reason.Signal)
