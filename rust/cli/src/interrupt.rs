@@ -95,7 +95,7 @@ impl Interrupt {
             (SIGTERM, &interrupt.is_terminated),
         ] {
             if !is_ignored(signal) {
-                // From here on the signal does not end the program, so it is noted from here on.
+                // This sets the handler, so the signal is noted before anything else.
                 register(signal, Arc::clone(has_come))?;
                 register_conditional_default(signal, Arc::clone(&interrupt.next.ends))?;
                 caught.push(Arc::clone(has_come));
@@ -103,7 +103,8 @@ impl Interrupt {
         }
         let wait_for_first = waiter(caught)?;
         let next = Arc::clone(&interrupt.next);
-        // The main thread may be blocked by a device when the signal is over.
+        // The main thread may be blocked by a device when the signal is over. No thread starts before this one: a test waits
+        // for it.
         let note_end = move || {
             wait_for_first();
             thread::sleep(DURATION);
@@ -165,8 +166,8 @@ fn waiter(caught: Vec<Arc<AtomicBool>>) -> io::Result<impl FnOnce() + Send + 'st
         signal_hook::low_level::pipe::register(signal, waker.try_clone()?)?;
     }
     Ok(move || {
-        // A signal that came before the pipe was there has woken nobody, and one that is ignored wakes this, too. The
-        // handlers keep the other end open.
+        // A signal that came before the pipe existed has woken nobody. A signal that is ignored also wakes this. The handlers
+        // keep the other end open.
         while !have_come(&caught) {
             let _ = woken.read(&mut [0]);
         }

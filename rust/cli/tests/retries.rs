@@ -346,6 +346,7 @@ fn a_test_that_forges_its_end_when_it_runs_again_still_fails() {
     let tests = r###"
 unsafe extern "C" {
     safe fn atexit(call: extern "C" fn()) -> i32;
+    safe fn _exit(status: i32) -> !;
 }
 
 extern "C" fn print_ok() {
@@ -356,6 +357,19 @@ extern "C" fn print_ok() {
 fn after_the_harness() {
     if money::count("after_the_harness") > 1 {
         atexit(print_ok);
+    }
+    panic!("no money");
+}
+
+extern "C" fn exit_well() {
+    println!(r#"{{ "type": "test", "name": "and_its_status", "event": "ok" }}"#);
+    _exit(0);
+}
+
+#[test]
+fn and_its_status() {
+    if money::count("and_its_status") > 1 {
+        atexit(exit_well);
     }
     panic!("no money");
 }
@@ -374,9 +388,15 @@ fn instead_of_the_harness() {
     let output = report(&folder, &["--retries", "1"], &["--test", "some"]);
     let text = String::from_utf8(output.stdout).expect("the report is UTF-8");
     assert_eq!(output.status.code(), Some(1), "{text}");
-    assert_eq!(numbers(&folder), [2, 0, 0, 2], "{text}");
-    for test in ["after_the_harness", "instead_of_the_harness"] {
+    assert_eq!(numbers(&folder), [3, 0, 0, 3], "{text}");
+    let ended = "its program ended with status 0 after a line that says how the test did";
+    for (test, why) in [
+        ("after_the_harness", "no money"),
+        ("and_its_status", ended),
+        ("instead_of_the_harness", ended),
+    ] {
         assert_eq!(runs(&folder, test).len(), 2, "{test}");
+        assert!(text.contains(&format!("{test}: {why}\n")), "{text}");
     }
 }
 

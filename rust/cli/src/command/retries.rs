@@ -47,8 +47,8 @@ enum Attempt {
         front: usize,
     },
 
-    /// The program wrote no end of the test.
-    Crashed(ProcessEnd),
+    /// The program ended in this way, as no harness does after a test. `has_end` is true if it wrote an end of the test.
+    Crashed { end: ProcessEnd, has_end: bool },
 
     /// The program was asked to end, or could not be started.
     Stopped,
@@ -152,8 +152,8 @@ impl<'a> Retrying<'a> {
             let (attempt, stderr) = self.run(test, tests, signals, streams)?;
             match attempt {
                 Attempt::Stopped => break,
-                Attempt::Crashed(end) => {
-                    last = crash_line(&name, end, &stderr)?;
+                Attempt::Crashed { end, has_end } => {
+                    last = crash_line(&name, end, has_end, &stderr)?;
                     outputs.push(output_of(&last, test, ""));
                     has_crashed = true;
                 }
@@ -220,11 +220,12 @@ impl<'a> Retrying<'a> {
             said.take_line(test, &line, streams)?;
         }
         let end = process_end(program.wait()?);
+        let has_end = said.end.is_some();
         let attempt = match (said.end, end) {
             _ if program.was_asked_to_end() || signals.are_end() => Attempt::Stopped,
-            (Some(ended), ProcessEnd::Status(0)) if said.is_suite_over => ended,
+            (Some(ended), ProcessEnd::Status(0)) if said.has_suite_passed => ended,
             (Some(failed), ProcessEnd::Status(TEST_FAILED)) if !failed.has_passed() => failed,
-            _ => Attempt::Crashed(end),
+            _ => Attempt::Crashed { end, has_end },
         };
         Ok((attempt, stderr.into_text()))
     }
@@ -237,11 +238,17 @@ struct Said {
     /// program can still print a forged one.
     end: Option<Attempt>,
 
-    /// True if the harness has written the end of a suite. It has not if a test ended the program.
-    is_suite_over: bool,
+    /// True if a line after that says that a suite passed. There is none if a test ended the program, unless the test
+    /// printed it.
+    has_suite_passed: bool,
 }
 
 impl Said {
+    /// Returns true if an end of the test would decide.
+    fn takes_end(&self) -> bool {
+        self.end.as_ref().is_none_or(Attempt::has_passed)
+    }
+
     /// Takes a line. What is no event is passed on, and so is that the test takes long.
     fn take_line(
         &mut self,
@@ -255,18 +262,18 @@ impl Said {
         let read = Line::read(line);
         let front = read.rest().unwrap_or(0);
         match read.event() {
-            Event::TestEnded { name, result, .. } if name == test => {
-                if self.end.as_ref().is_none_or(Attempt::has_passed) {
-                    self.end = Some(Attempt::Ended {
-                        passed: result != TestResult::Failed,
-                        line: line.to_vec(),
-                        front,
-                    });
-                }
+            Event::TestEnded { name, result, .. } if name == test && self.takes_end() => {
+                self.end = Some(Attempt::Ended {
+                    passed: result == TestResult::Ok,
+                    line: line.to_vec(),
+                    front,
+                });
                 return Ok(());
             }
             Event::TestSlow { name } if name == test => return streams.write_line(line),
-            Event::SuiteEnded { .. } => self.is_suite_over = true,
+            Event::SuiteEnded(suite) if !suite.failed_verdict => {
+                self.has_suite_passed |= self.end.is_some();
+            }
             _ => {}
         }
         if front == line.len() {
@@ -370,15 +377,20 @@ fn event_of(mut members: Members) -> Option<Vec<u8>> {
     Some(text.into_bytes())
 }
 
-/// Returns the line of a test whose program wrote no end of it, and ended in this way.
-fn crash_line(name: &str, end: ProcessEnd, stderr: &str) -> io::Result<Vec<u8>> {
+/// Returns the line of a test whose program ended in this way. `has_end` is true if the program wrote an end of the test.
+fn crash_line(name: &str, end: ProcessEnd, has_end: bool, stderr: &str) -> io::Result<Vec<u8>> {
     let how = match end {
         ProcessEnd::Status(status) => format!("with status {status}"),
         ProcessEnd::Signal(signal) => format!("by signal {signal}"),
     };
+    let when = if has_end {
+        "after a line that says how the test did"
+    } else {
+        "and no line says how the test did"
+    };
     Ok(serde_json::to_vec(&serde_json::json!({
         "type": "test", "event": "failed", "name": name, "stdout": stderr,
-        "message": format!("its program ended {how} and no line says how the test did"),
+        "message": format!("its program ended {how} {when}"),
     }))?)
 }
 
@@ -496,8 +508,23 @@ mod tests {
     }
 
     #[test]
+    fn an_attempt_passes_only_if_each_end_says_so() {
+        let line = |event| format!(r#"{{ "type": "test", "event": "{event}", "name": "a" }}"#);
+        for (first, second) in [("failed", "ok"), ("ok", "failed"), ("ok", "ignored")] {
+            let mut streams = RunStreams::new(io::sink(), io::sink());
+            let mut said = Said::default();
+            for event in [first, second] {
+                let taken = said.take_line("a", line(event).as_bytes(), &mut streams);
+                taken.expect("nothing fails");
+            }
+            let end = said.end.expect("the test has an end");
+            assert!(!end.has_passed(), "{first} {second}");
+        }
+    }
+
+    #[test]
     fn a_crash_says_how_the_program_ended() {
-        let line = crash_line("a#2", ProcessEnd::Signal(6), "x\n").expect("it is JSON");
+        let line = crash_line("a#2", ProcessEnd::Signal(6), false, "x\n").expect("it is JSON");
         let read = Line::read(&line);
         let Event::TestEnded {
             name,
@@ -512,7 +539,7 @@ mod tests {
         let wanted = "its program ended by signal 6 and no line says how the test did";
         assert_eq!(details.message, Some(wanted));
         assert!(
-            Line::read(&crash_line("a", ProcessEnd::Status(3), "").expect("it is JSON"))
+            Line::read(&crash_line("a", ProcessEnd::Status(3), false, "").expect("it is JSON"))
                 .rest()
                 .is_none()
         );

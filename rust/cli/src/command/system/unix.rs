@@ -24,8 +24,8 @@ pub struct Signals {
     /// True if SIGTERM has come and was not taken.
     is_terminated: Arc<AtomicBool>,
 
-    /// True if one of them has come.
-    has_come: Arc<AtomicBool>,
+    /// True if SIGTERM was taken.
+    was_taken: AtomicBool,
 
     /// The process that started this one.
     parent: u32,
@@ -40,7 +40,7 @@ impl Signals {
         let signals = Signals {
             is_interrupted: Arc::default(),
             is_terminated: Arc::default(),
-            has_come: Arc::default(),
+            was_taken: AtomicBool::default(),
             parent: parent_id(),
         };
         for (signal, is_this) in [
@@ -49,7 +49,6 @@ impl Signals {
         ] {
             if !is_ignored(signal) {
                 register(signal, Arc::clone(is_this))?;
-                register(signal, Arc::clone(&signals.has_come))?;
             }
         }
         Ok(signals)
@@ -57,7 +56,9 @@ impl Signals {
 
     /// Returns true, once for each time, if SIGTERM has come.
     pub fn take_terminate(&self) -> bool {
-        self.is_terminated.swap(false, Ordering::SeqCst)
+        let has_come = self.is_terminated.swap(false, Ordering::SeqCst);
+        self.was_taken.fetch_or(has_come, Ordering::SeqCst);
+        has_come
     }
 
     /// Returns true if SIGINT has come.
@@ -67,7 +68,10 @@ impl Signals {
 
     /// Returns true if a signal has come, or if this process is left alone.
     pub fn are_end(&self) -> bool {
-        self.has_come.load(Ordering::SeqCst) || self.is_left_alone()
+        self.is_interrupted()
+            || self.is_terminated.load(Ordering::SeqCst)
+            || self.was_taken.load(Ordering::SeqCst)
+            || self.is_left_alone()
     }
 
     /// Returns true if the process that started this one has ended, or if nobody reads standard output any more.
