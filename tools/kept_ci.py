@@ -5,9 +5,9 @@ crate from nothing and keeps no proof, and tries each must-fail edit by a check 
 programs has a new folder, out/incremental, in which the prover keeps what it proves. So the crate is proved from nothing
 as well. A library is built with its proofs, and a verdict may say that it was reached over such a folder. The edits of a
 crate are tried by tools/must-fail over that folder, while other crates are proved. As many crates are proved at the same
-time as there are processors and memory, each by one process. Only the crates of the longest chain, for which the end of a
-run waits, are proved by as many processes as there are processors. All else is as in `rt ci`: the words that it refuses,
-contracts that no call can meet, both compilers, and the runs of programs.
+time as there are processors and memory, each by one process. Only crates for which the end of a run waits are proved by up
+to four processes, which take more memory. All else is as in `rt ci`: the words that it refuses, contracts that no call can
+meet, both compilers, and the runs of programs.
 
 There are two forms of `rt`. One of them has a store of what earlier runs passed, and takes `--anew`. What this tool passes
 is then kept there for later runs of this tool, and not for a plain `rt ci`. With the other form each run proves all.
@@ -28,6 +28,8 @@ import crate_list
 
 # What the prover adds to a verdict over such a folder.
 KEPT = " incremental=trusted"
+# A chain is nearly as heavy as another one if it has this part of its weight.
+NEARLY = 0.9
 # The tools that decide what becomes of an edit.
 TOOLS = ("kept_ci.py", "must-fail", "compiler.py", "crate_list.py")
 
@@ -85,10 +87,12 @@ class Edits:
                 self.kept.keep_tried(self.name_of(name), *self.results[name])
 
 
-def longest_chain(size_of):
-    """Returns the crates of the longest chain, by the sizes of crates."""
-    sizes = {crate: size_of(crate) for crate in crate_list.used()}
-    return max(crate_list.heaviest_chains(sizes).values(), key=lambda chain: crate_list.weight_of(chain, sizes))
+def awaited():
+    """Returns the crates for which the end of a run waits: a chain through each is nearly as heavy as the heaviest one, by the
+    sizes of sources."""
+    sources = {crate: Path(compiler.TOP, "crates", crate, "src").rglob("*.rt") for crate in crate_list.used()}
+    through = crate_list.heaviest_through({crate: sum(map(os.path.getsize, found)) for crate, found in sources.items()})
+    return {crate for crate, weight in through.items() if weight >= NEARLY * max(through.values())}
 
 
 def with_jobs(command, jobs):
@@ -113,26 +117,27 @@ def main(origin, *words):
     """Runs `rt ci` and returns its exit status."""
     # By its own estimate of memory, `rt` leaves processors idle, or gives several to any crate. Each process of a crate
     # reads all libraries, which takes more processor time in all.
-    lanes = compiler.lanes()
-    os.environ.setdefault("RT_JOBS", str(lanes))
+    jobs = min(4, int(os.environ.setdefault("RT_JOBS", str(compiler.lanes()))))
     compiler.PROVED = "rlib"
     rt, must_fail = loaded(f"{compiler.kit()}/bin/rt"), loaded(f"{compiler.TOP}/tools/must-fail")
     prove = rt.Crate.prove
     rt.rtlib.VERDICT = Verdict(rt.rtlib.VERDICT)
     # `rt` takes no file with another name for an edit, and that fails nothing.
     rt.edits_of = lambda crate: (must_fail.paths_of(crate.name), [])
-    longest = longest_chain(must_fail.size_of)
+    by_several = awaited()
 
     def prove_and_keep(crate, *commands):
         if crate.is_program:
             return prove(crate, *commands)
-        # A check that was killed is made once more.
+        # A check that was killed is made once more, by one process.
         shutil.rmtree(compiler.kept(crate.name), ignore_errors=True)
         # A library that holds only its statements cannot be built over such a folder.
         plain = [[word for word in command if word != "--statements"] for command in commands]
-        jobs = lanes if crate.name in longest else 1
         kept = ["--incremental", compiler.kept(crate.name)]
-        return prove(crate, *([*with_jobs(command, jobs), *kept] for command in plain))
+        if crate.name in by_several:
+            by_several.remove(crate.name)
+            plain = [with_jobs(command, jobs) for command in plain]
+        return prove(crate, *([*command, *kept] for command in plain))
 
     def add_edits(tasks, crate, paths, _first, waits, is_well, kept):
         edits = Edits(rt, must_fail, kept, crate, [os.path.basename(path) for path in paths])

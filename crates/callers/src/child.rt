@@ -76,7 +76,7 @@ fn describe_again<R: AllocGlobal + Print>(rt: &R, refused: Refused) {
     }
 }
 
-/// Makes the lists of the errors in output.
+/// Makes the lists of the errors in output. Only here is the output dropped, because a proof spells out each drop.
 fn describe_errors<R: AllocGlobal + Print>(rt: &R, output: Description) {
     make_lists(rt, &output);
 }
@@ -119,7 +119,8 @@ fn print_list<R: Print>(
 
 /// Prints the number of errors, and each error if there are few.
 fn print_errors<R: Print>(rt: &R, list: &ErrorList<UnitError<'_>>) {
-    print(rt, "  errors", list.len());
+    let count = list.len();
+    let _ = println!(rt; "  errors: {count}");
     if list.len() < 10 {
         for error in list.iter() {
             print_error(rt, error);

@@ -1,4 +1,4 @@
-use Rattle.std.proofs.Common.{sym, ap, ◌∙◌, arith, take_all, map}
+use Rattle.std.proofs.Common.{sym, ap, ◌∙◌, take_all, map}
 use Rattle.std.specs.List.{concat}
 use Rattle.std.proofs.lemmas.List.{map_more}
 use Rattle.std.proofs.lemmas.List.Elements.{All-get_or}
