@@ -48,16 +48,6 @@ def heaviest_chains(weights):
     return found
 
 
-def heaviest_through(weights):
-    """Returns for each crate the weight of the heaviest such list that has the crate anywhere."""
-    uses, ends = used_crates(), heaviest_chains(weights)
-    begins = dict(weights)
-    for crate in reversed([*graphlib.TopologicalSorter(uses).static_order()]):
-        for name in uses[crate]:
-            begins[name] = max(begins[name], weights[name] + begins[crate])
-    return {crate: weight_of(ends[crate], weights) + begins[crate] - weights[crate] for crate in uses}
-
-
 def weight_of(chain, weights):
     """Returns the weight of a list of crates."""
     return sum(weights[crate] for crate in chain)

@@ -5,9 +5,8 @@ crate from nothing and keeps no proof, and tries each must-fail edit by a check 
 programs has a new folder, out/incremental, in which the prover keeps what it proves. So the crate is proved from nothing
 as well. A library is built with its proofs, and a verdict may say that it was reached over such a folder. The edits of a
 crate are tried by tools/must-fail over that folder, while other crates are proved. As many crates are proved at the same
-time as there are processors and memory, each by one process. Only crates for which the end of a run waits are proved by up
-to four processes, which take more memory. All else is as in `rt ci`: the words that it refuses, contracts that no call can
-meet, both compilers, and the runs of programs.
+time as there are processors and memory, each by one process. All else is as in `rt ci`: the words that it refuses,
+contracts that no call can meet, both compilers, and the runs of programs.
 
 There are two forms of `rt`. One of them has a store of what earlier runs passed, and takes `--anew`. What this tool passes
 is then kept there for later runs of this tool, and not for a plain `rt ci`. With the other form each run proves all.
@@ -24,12 +23,9 @@ import sys
 from pathlib import Path
 
 import compiler
-import crate_list
 
 # What the prover adds to a verdict over such a folder.
 KEPT = " incremental=trusted"
-# A chain is nearly as heavy as another one if it has this part of its weight.
-NEARLY = 0.9
 # The tools that decide what becomes of an edit.
 TOOLS = ("kept_ci.py", "must-fail", "compiler.py", "crate_list.py")
 
@@ -87,20 +83,6 @@ class Edits:
                 self.kept.keep_tried(self.name_of(name), *self.results[name])
 
 
-def awaited():
-    """Returns the crates for which the end of a run waits: a chain through each is nearly as heavy as the heaviest one, by the
-    sizes of sources."""
-    sources = {crate: Path(compiler.TOP, "crates", crate, "src").rglob("*.rt") for crate in crate_list.used()}
-    through = crate_list.heaviest_through({crate: sum(map(os.path.getsize, found)) for crate, found in sources.items()})
-    return {crate for crate, weight in through.items() if weight >= NEARLY * max(through.values())}
-
-
-def with_jobs(command, jobs):
-    """Returns a command of the prover with another number of processes."""
-    place = command.index("--jobs") + 1
-    return [*command[:place], str(jobs), *command[place + 1 :]]
-
-
 def end_checks_on_signals(must_fail):
     """Has a signal that ends this process first end the checks of edits."""
 
@@ -115,29 +97,24 @@ def end_checks_on_signals(must_fail):
 
 def main(origin, *words):
     """Runs `rt ci` and returns its exit status."""
-    # By its own estimate of memory, `rt` leaves processors idle, or gives several to any crate. Each process of a crate
-    # reads all libraries, which takes more processor time in all.
-    jobs = min(4, int(os.environ.setdefault("RT_JOBS", str(compiler.lanes()))))
+    # By its own estimate of memory, `rt` leaves processors idle, or gives several to a crate. Four processes took 1.7 times
+    # the processor time of one, and ended no sooner.
+    os.environ.setdefault("RT_JOBS", str(compiler.lanes()))
     compiler.PROVED = "rlib"
     rt, must_fail = loaded(f"{compiler.kit()}/bin/rt"), loaded(f"{compiler.TOP}/tools/must-fail")
     prove = rt.Crate.prove
     rt.rtlib.VERDICT = Verdict(rt.rtlib.VERDICT)
     # `rt` takes no file with another name for an edit, and that fails nothing.
     rt.edits_of = lambda crate: (must_fail.paths_of(crate.name), [])
-    by_several = awaited()
 
     def prove_and_keep(crate, *commands):
         if crate.is_program:
             return prove(crate, *commands)
-        # A check that was killed is made once more, by one process.
+        # A check that was killed is made once more.
         shutil.rmtree(compiler.kept(crate.name), ignore_errors=True)
         # A library that holds only its statements cannot be built over such a folder.
         plain = [[word for word in command if word != "--statements"] for command in commands]
-        kept = ["--incremental", compiler.kept(crate.name)]
-        if crate.name in by_several:
-            by_several.remove(crate.name)
-            plain = [with_jobs(command, jobs) for command in plain]
-        return prove(crate, *([*command, *kept] for command in plain))
+        return prove(crate, *([*command, "--incremental", compiler.kept(crate.name)] for command in plain))
 
     def add_edits(tasks, crate, paths, _first, waits, is_well, kept):
         edits = Edits(rt, must_fail, kept, crate, [os.path.basename(path) for path in paths])
