@@ -19,7 +19,6 @@ use Rattle.run_events.specs.declared.events.ReporterEvent.TheVariants as told
 use Rattle.run_events.specs.declared.events.kind.TestEventKind.{TestEventKind}
 use Rattle.run_events.specs.declared.events.kind.TestEventKind.TheVariants.{SetupScriptFinished, TestFinished}
 use Rattle.run_events_stats.specs.declared.stats.RunStart.{RunStart}
-use Rattle.run_events_stats.specs.declared.stats.RunStats.{RunStats}
 use Rattle.run_events_results.specs.declared.results.ExecutionResult.{ExecutionResult}
 use Rattle.uses.specs.declared.of_run_events.EndedAttempt.{EndedAttempt}
 
@@ -83,23 +82,3 @@ unit_of_kind _ = None
 abbrev pub told_unit : ReporterEvent → Option UnitView
 told_unit told.Tick = None
 told_unit (told.Test event) = unit_of_kind event.value.kind
-
--- the name of the finished test in a kind of event
-abbrev pub name_of_kind : TestEventKind → Option (List ℕ)
-name_of_kind (TestFinished index id success failure store_success store_failure flaky statuses stats running) = Some id.test_name.now
-name_of_kind _ = None
-
--- the name of the finished test in an event
-abbrev pub told_name : ReporterEvent → Option (List ℕ)
-told_name told.Tick = None
-told_name (told.Test event) = name_of_kind event.value.kind
-
--- the counters in a kind of event, when a test finishes
-abbrev pub stats_of_kind : TestEventKind → Option RunStats
-stats_of_kind (TestFinished index id success failure store_success store_failure flaky statuses stats running) = Some stats
-stats_of_kind _ = None
-
--- the counters in an event, when a test finishes
-abbrev pub told_stats : ReporterEvent → Option RunStats
-told_stats told.Tick = None
-told_stats (told.Test event) = stats_of_kind event.value.kind

@@ -1,21 +1,20 @@
-//! The side of a runner: makes the statuses of attempts and the events of finished tests, and
-//! passes the finished units to the counters.
+//! The side of a runner: makes the statuses of attempts, and passes the finished units in events to
+//! the counters.
 
 ghost use Rattle.std.specs.Prelude.{◌≡◌, ◌<◌, ◌+◌, ◌^◌, ◌++◌, ◌∷◌, [], IfOk, None, Some, length, map, option_map};
 ghost use Rattle.std.specs.List.{filter_map, range_with_len};
-ghost use Rattle.run_events.specs.Counters.{TestUnit, stats_of, unit_view};
+ghost use Rattle.run_events.specs.Counters.{stats_of, unit_view};
 ghost use Rattle.run_events.specs.Described.{described_result};
 ghost use Rattle.run_events.specs.Attempts.{attempts_of, view_of};
-ghost use Rattle.uses.specs.Runner.{HasStatuses, last_stderr, left_by, numbered_of, told_name, told_stats, told_unit, view_of_attempts};
+ghost use Rattle.uses.specs.Runner.{HasStatuses, last_stderr, left_by, numbered_of, told_unit, view_of_attempts};
 
-use crate::of_run_events::{EndedAttempt, epoch, push_status};
+use crate::of_run_events::{EndedAttempt, push_status};
 use run_events::attempts::{ExecuteStatus, ExecutionStatuses, RetryData};
 use run_events::child::LiveSpec;
-use run_events::config::{FlakyResult, JunitFlakyFailStatus, TestInstanceId, TestOutputDisplay};
-use run_events::events::{ReporterEvent, TestEvent, TestEventKind};
+use run_events::config::FlakyResult;
+use run_events::events::{ReporterEvent, TestEventKind};
 use run_events::stats::{FinishedUnit, RunStart, RunStats};
 use std::alloc::{AllocError, Global};
-use std::time::Duration;
 
 /// Returns a test that finished with the attempt `last` after the earlier ones. The attempts are
 /// numbered from 1, and the total of each is their number. Both stop at `u32::MAX`.
@@ -75,46 +74,6 @@ fn push_statuses(
         retry_data.attempt = retry_data.attempt.saturating_add(1);
     }
     Ok(retry_data)
-}
-
-/// Returns the event that a test of this name finished.
-pub fn test_finished(
-    alloc: Global,
-    test_name: &str,
-    run_statuses: ExecutionStatuses<LiveSpec>,
-    current_stats: RunStats,
-) -> Result<ReporterEvent<'_>, AllocError>
-    ensures unit { IfOk result (λ event. told_unit event ≡ Some (TestUnit (view_of run_statuses))) }
-    ensures name { IfOk result (λ event. told_name event ≡ Some test_name.entry.now) }
-    ensures stats { IfOk result (λ event. told_stats event ≡ Some current_stats) }
-{
-    let event = TestEvent {
-        timestamp: epoch(),
-        elapsed: Duration::ZERO,
-        kind: TestEventKind::TestFinished {
-            stress_index: None,
-            test_instance: TestInstanceId {
-                binary_id: "demo",
-                test_name,
-            },
-            success_output: TestOutputDisplay::Never,
-            failure_output: TestOutputDisplay::Immediate,
-            junit_store_success_output: false,
-            junit_store_failure_output: true,
-            junit_flaky_fail_status: JunitFlakyFailStatus { name: "failure" },
-            run_statuses,
-            current_stats,
-            running: 0,
-        },
-    };
-    Ok(ReporterEvent::Test(boxed(alloc, event)?))
-}
-
-/// Returns a value in a box. If memory runs out, the value is dropped.
-fn boxed<T: Drop>(alloc: Global, value: T) -> Result<Box<T>, AllocError>
-    ensures { IfOk result (λ boxed. boxed.value ≡ value) }
-{
-    Ok(Box::new(alloc, value)?)
 }
 
 /// Returns the finished unit of an event, borrowed.
