@@ -5,8 +5,8 @@ crate from nothing and keeps no proof, and tries each must-fail edit by a check 
 programs has a new folder, out/incremental, in which the prover keeps what it proves. So the crate is proved from nothing
 as well. A library is built with its proofs, and a verdict may say that it was reached over such a folder. The edits of a
 crate are tried by tools/must-fail over that folder, while other crates are proved. As many crates are proved at the same
-time as there are processors and memory, each by one process. All else is as in `rt ci`: the words that it refuses,
-contracts that no call can meet, both compilers, and the runs of programs.
+time as there are processors and memory, each by one process, and only the largest by two. All else is as in `rt ci`: the
+words that it refuses, contracts that no call can meet, both compilers, and the runs of programs.
 
 There are two forms of `rt`. One of them has a store of what earlier runs passed, and takes `--anew`. What this tool passes
 is then kept there for later runs of this tool, and not for a plain `rt ci`. With the other form each run proves all.
@@ -23,6 +23,7 @@ import sys
 from pathlib import Path
 
 import compiler
+import crate_list
 
 # What the prover adds to a verdict over such a folder.
 KEPT = " incremental=trusted"
@@ -83,6 +84,12 @@ class Edits:
                 self.kept.keep_tried(self.name_of(name), *self.results[name])
 
 
+def with_jobs(command, jobs):
+    """Returns a command of the prover with another number of processes."""
+    place = command.index("--jobs") + 1
+    return [*command[:place], str(jobs), *command[place + 1 :]]
+
+
 def end_checks_on_signals(must_fail):
     """Has a signal that ends this process first end the checks of edits."""
 
@@ -97,15 +104,17 @@ def end_checks_on_signals(must_fail):
 
 def main(origin, *words):
     """Runs `rt ci` and returns its exit status."""
-    # By its own estimate of memory, `rt` leaves processors idle, or gives several to a crate. Four processes took 1.7 times
-    # the processor time of one, and ended no sooner.
-    os.environ.setdefault("RT_JOBS", str(compiler.lanes()))
+    # By its own estimate of memory, `rt` leaves processors idle, or gives several to any crate. Four processes took 1.7 times
+    # the processor time of one for a crate of 55 functions, and ended no sooner. For the largest crate, for which others
+    # wait, two took 1.14 times the processor time, and 0.78 times the time.
+    lanes = int(os.environ.setdefault("RT_JOBS", str(compiler.lanes())))
     compiler.PROVED = "rlib"
     rt, must_fail = loaded(f"{compiler.kit()}/bin/rt"), loaded(f"{compiler.TOP}/tools/must-fail")
     prove = rt.Crate.prove
     rt.rtlib.VERDICT = Verdict(rt.rtlib.VERDICT)
     # `rt` takes no file with another name for an edit, and that fails nothing.
     rt.edits_of = lambda crate: (must_fail.paths_of(crate.name), [])
+    largest = max(crate_list.used(), key=must_fail.size_of)
 
     def prove_and_keep(crate, *commands):
         if crate.is_program:
@@ -114,7 +123,9 @@ def main(origin, *words):
         shutil.rmtree(compiler.kept(crate.name), ignore_errors=True)
         # A library that holds only its statements cannot be built over such a folder.
         plain = [[word for word in command if word != "--statements"] for command in commands]
-        return prove(crate, *([*command, "--incremental", compiler.kept(crate.name)] for command in plain))
+        jobs = min(2, lanes) if crate.name == largest else 1
+        kept = ["--incremental", compiler.kept(crate.name)]
+        return prove(crate, *([*with_jobs(command, jobs), *kept] for command in plain))
 
     def add_edits(tasks, crate, paths, _first, waits, is_well, kept):
         edits = Edits(rt, must_fail, kept, crate, [os.path.basename(path) for path in paths])
