@@ -1,9 +1,9 @@
 //! Makes calls that allocate, and prints what each returns. `tools/allocation-failures` runs this program with a
 //! small library loaded before it that makes one allocation fail.
 //!
-//! A line has the name of a call and what it returned. Below the line of a list are its errors, with spaces before
-//! them. If memory runs out in a call, its line says so, and the program goes on. Then it makes a call with what the
-//! first call borrowed or gave back, so a change of this shows. If memory runs out before a call, the program ends.
+//! Each call has a line with its name and what it returned. The errors of a list follow on indented lines. If a call
+//! runs out of memory, its line says so. The program then makes the call again, with the values that the failed call
+//! borrowed or gave back, so a changed value shows. If memory runs out outside of these calls, the program ends.
 #![tactic(auto)]
 
 use crate::child::ABORT;
