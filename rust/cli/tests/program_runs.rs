@@ -523,11 +523,9 @@ fn many_errors_of_the_compiler_take_time_in_proportion() {
         assert!(text.contains(&wanted), "{}", &text[text.len() - 200..]);
         start.elapsed()
     };
-    // On a busy machine a single time says little.
-    let best_of = |count| (0..3).map(|_| time_of(count)).min();
-    let (few, many) = (best_of(4_000), best_of(16_000));
-    // If each error were compared with each other one, four times as many would take twelve times as long.
-    assert!(many < few.map(|few| 8 * few), "{few:?} and {many:?}");
+    // If each error were compared with each other one, eight times as many would take about fifty times as long.
+    // On a busy machine a single pair of times says little.
+    assert!((0..5).any(|_| time_of(24_000) < 20 * time_of(3_000)));
 }
 
 #[test]
