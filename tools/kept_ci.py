@@ -104,9 +104,9 @@ def end_checks_on_signals(must_fail):
 
 def main(origin, *words):
     """Runs `rt ci` and returns its exit status."""
-    # By its own estimate of memory, `rt` leaves processors idle, or gives several to any crate. Four processes took 1.7 times
-    # the processor time of one for a crate of 55 functions, and ended no sooner. For the largest crate, for which others
-    # wait, two took 1.14 times the processor time, and 0.78 times the time.
+    # By its own estimate of memory, `rt` leaves processors idle, or gives several to any crate. Four processes took 1.6 times
+    # the processor time of one for a crate of 55 functions, and 0.76 times the time. For the largest crate, for which others
+    # wait, four took 1.3 times the processor time, and 0.46 times the time.
     lanes = int(os.environ.setdefault("RT_JOBS", str(compiler.lanes())))
     compiler.PROVED = "rlib"
     rt, must_fail = loaded(f"{compiler.kit()}/bin/rt"), loaded(f"{compiler.TOP}/tools/must-fail")
@@ -123,7 +123,7 @@ def main(origin, *words):
         shutil.rmtree(compiler.kept(crate.name), ignore_errors=True)
         # A library that holds only its statements cannot be built over such a folder.
         plain = [[word for word in command if word != "--statements"] for command in commands]
-        jobs = min(2, lanes) if crate.name == largest else 1
+        jobs = lanes if crate.name == largest else 1
         kept = ["--incremental", compiler.kept(crate.name)]
         return prove(crate, *([*with_jobs(command, jobs), *kept] for command in plain))
 
