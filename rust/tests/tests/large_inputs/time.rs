@@ -18,26 +18,24 @@ fn start_of(stderr: &[u8]) -> Option<usize> {
     found.stderr_subslice().map(|part| part.start)
 }
 
-/// Returns the least time of three searches in copies of a beginning before a last line. The slice
-/// must begin at that line if `is_found`.
-fn least_time(count: usize, last: &[u8], is_found: bool) -> Duration {
+/// Returns the time of a search in copies of a beginning before a last line. The slice must begin at that line if
+/// `is_found`.
+fn time_of(count: usize, last: &[u8], is_found: bool) -> Duration {
     let stderr = [&OPENING.repeat(count), last].concat();
     let wanted = is_found.then_some(count * OPENING.len());
-    let time = || {
-        let start = Instant::now();
-        assert_eq!(start_of(&stderr), wanted);
-        start.elapsed()
-    };
-    time().min(time()).min(time())
+    let start = Instant::now();
+    assert_eq!(start_of(&stderr), wanted);
+    start.elapsed()
 }
 
-/// Asserts that the time grows with the size of the input, and not with its square. The limit is
-/// three times as high as needed, and has 50 milliseconds more for other work of a busy machine.
+/// Asserts that the time grows with the size of the input, and not with its square. The limit is three times as high as
+/// needed. On a busy machine a single pair of times says little.
 fn assert_linear(last: &[u8], is_found: bool) {
-    let small = least_time(COUNT / SHARE, last, is_found);
-    let large = least_time(COUNT, last, is_found);
-    let limit = small * 3 * SHARE as u32 + Duration::from_millis(50);
-    assert!(large <= limit, "{small:?} and {large:?}");
+    let is_linear = |_| {
+        let small = time_of(COUNT / SHARE, last, is_found);
+        time_of(COUNT, last, is_found) <= small * 3 * SHARE as u32
+    };
+    assert!((0..5).any(is_linear));
 }
 
 #[test]
