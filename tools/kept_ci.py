@@ -5,8 +5,9 @@ crate from nothing and keeps no proof, and tries each must-fail edit by a check 
 programs has a new folder, out/incremental, in which the prover keeps what it proves. So the crate is proved from nothing
 as well. A library is built with its proofs, and a verdict may say that it was reached over such a folder. The edits of a
 crate are tried by tools/must-fail over that folder, while other crates are proved. As many crates are proved at the same
-time as there are processors and memory, each by one process, and only the largest by two. All else is as in `rt ci`: the
-words that it refuses, contracts that no call can meet, both compilers, and the runs of programs.
+time as there are processors and memory, each by one process, and only the largest by one for each processor. Others yield
+to the largest, to those that it waits for, and to those that wait for it. All else is as in `rt ci`: the words that it
+refuses, contracts that no call can meet, both compilers, and the runs of programs.
 
 There are two forms of `rt`. One of them has a store of what earlier runs passed, and takes `--anew`. What this tool passes
 is then kept there for later runs of this tool, and not for a plain `rt ci`. With the other form each run proves all.
@@ -20,6 +21,7 @@ import os
 import shutil
 import signal
 import sys
+from concurrent.futures import ThreadPoolExecutor
 from pathlib import Path
 
 import compiler
@@ -90,6 +92,13 @@ def with_jobs(command, jobs):
     return [*command[:place], str(jobs), *command[place + 1 :]]
 
 
+def yielding(call, *arguments):
+    """Calls a function in a thread that yields to other work, as do the processes that it starts."""
+    # On Linux, each thread has a priority of its own.
+    with ThreadPoolExecutor(1, initializer=os.nice, initargs=(10,)) as pool:
+        return pool.submit(call, *arguments).result()
+
+
 def end_checks_on_signals(must_fail):
     """Has a signal that ends this process first end the checks of edits."""
 
@@ -116,23 +125,28 @@ def main(origin, *words):
     rt.edits_of = lambda crate: (must_fail.paths_of(crate.name), [])
     largest = max(crate_list.used(), key=must_fail.size_of)
 
+    def prove_in_turn(crate, *commands):
+        if crate.name in crate_list.below(largest) or largest in crate_list.below(crate.name):
+            return prove(crate, *commands)
+        return yielding(prove, crate, *commands)
+
     def prove_and_keep(crate, *commands):
         if crate.is_program:
-            return prove(crate, *commands)
+            return prove_in_turn(crate, *commands)
         # A check that was killed is made once more.
         shutil.rmtree(compiler.kept(crate.name), ignore_errors=True)
         # A library that holds only its statements cannot be built over such a folder.
         plain = [[word for word in command if word != "--statements"] for command in commands]
         jobs = lanes if crate.name == largest else 1
         kept = ["--incremental", compiler.kept(crate.name)]
-        return prove(crate, *([*with_jobs(command, jobs), *kept] for command in plain))
+        return prove_in_turn(crate, *([*with_jobs(command, jobs), *kept] for command in plain))
 
     def add_edits(tasks, crate, paths, _first, waits, is_well, kept):
         edits = Edits(rt, must_fail, kept, crate, [os.path.basename(path) for path in paths])
 
         def try_all(given, _jobs):
             if paths and is_well(given):
-                edits.try_all(origin)
+                yielding(edits.try_all, origin)
 
         # `rt` begins such a task when no proof waits for a processor.
         tasks[crate.name, "edits"] = (waits, 0, rt.OVER * rt.need(crate), try_all)
