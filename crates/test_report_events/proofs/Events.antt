@@ -6,7 +6,7 @@ use Rattle.std.proofs.lemmas.Slice.Eq.{bytes_eq-Decides}
 use Rattle.std.specs.Str.{bytes_eq}
 use Rattle.serde_json.specs.Data.{Data}
 use Rattle.test_report_events.proofs.Times.{one-time}
-use Rattle.test_report_events.specs.Event.{EventView, SuiteEndView, TestEndView, SuiteStarts, SuiteEnds, TestStarts, TestEnds, TestIsSlow, OtherLine, HeadingLine, CargoFails, Prints, DamagedLine, CommandStarts, CommandOver, Cancels, AllEndEarly, ProgramDisagrees}
+use Rattle.test_report_events.specs.Event.{EventView, SuiteEndView, TestEndView, SuiteStarts, SuiteEnds, TestStarts, TestEnds, TestIsSlow, OtherLine, HeadingLine, CargoFails, Prints, DamagedLine, CommandStarts, CommandOver, Cancels, AllEndEarly, ProgramContradicts}
 use Rattle.test_report_events.specs.Program.{object_tells, said_by}
 use Rattle.test_report_events.specs.Said.{EndsAs, HasEvent, HasName, HasType, HasVerdict, IsBeside, IsOther, ObjectSays, Says, is_text, text_of}
 use Rattle.test_report_events.specs.Table.{bench_result, object_said, suite_end_said, suite_said, test_end_said, test_said, typed_said}
@@ -176,7 +176,7 @@ module _ (d : Data) (time : Option ℕ) where
   object-only (CommandOver end) h = absurd h
   object-only (Cancels reason) h = absurd h
   object-only (AllEndEarly end) h = absurd h
-  object-only (ProgramDisagrees fault) h = absurd h
+  object-only (ProgramContradicts fault) h = absurd h
 
   -- an object of a type that says nothing of a test still has an event
   beside : IsBeside d → object_said time d ≡ None → ⊥

@@ -3,7 +3,7 @@ use Rattle.std.specs.Prelude.{◌≡◌, ◌≢◌, ◌⊎◌, ℕ, List, [], �
 use Rattle.std.specs.Str.{bytes_eq}
 use Rattle.serde_json.specs.Data.{Data}
 use Rattle.serde_json.specs.Find.{as_number, as_str, as_u64, get}
-use Rattle.test_report_events.specs.Event.{EventView, SuiteStarts, SuiteEnds, TestStarts, TestEnds, TestIsSlow, OtherLine, HeadingLine, CargoFails, Prints, DamagedLine, CommandStarts, CommandOver, Cancels, AllEndEarly, ProgramDisagrees, key_text}
+use Rattle.test_report_events.specs.Event.{EventView, SuiteStarts, SuiteEnds, TestStarts, TestEnds, TestIsSlow, OtherLine, HeadingLine, CargoFails, Prints, DamagedLine, CommandStarts, CommandOver, Cancels, AllEndEarly, ProgramContradicts, key_text}
 use Rattle.test_report_events.specs.Time.{GivesTime}
 use Rattle.test_report_events.specs.declared.event.TestResult.{TestResult}
 use Rattle.test_report_events.specs.declared.event.TestResult.TheVariants.{Ok, Failed, Ignored}
@@ -126,7 +126,7 @@ Says time d (CommandStarts names) = ⊥
 Says time d (CommandOver end) = ⊥
 Says time d (Cancels reason) = ⊥
 Says time d (AllEndEarly end) = ⊥
-Says time d (ProgramDisagrees fault) = ⊥
+Says time d (ProgramContradicts fault) = ⊥
 
 -- what an object says that was read from this line
 abbrev pub ObjectSays : List ℕ → Data → EventView → Type 0

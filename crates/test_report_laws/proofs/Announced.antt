@@ -201,12 +201,12 @@ covered-end n notes r i = omega (
 abbrev reached : RunEnd → ℕ
 reached e = e.stats.finished_count + e.skipped + e.not_run
 
-ending-reached : (e : RunEnd) (beyond disagree : Bool)
+ending-reached : (e : RunEnd) (beyond contradict : Bool)
     → reached (if beyond then record e { outcome = outcome.Failed step.Test }
-    else if disagree then record e { outcome = combined e.outcome (outcome.Cancelled step.Test) }
+    else if contradict then record e { outcome = combined e.outcome (outcome.Cancelled step.Test) }
     else e)
     ≡ reached e
-ending-reached e true disagree = refl
+ending-reached e true contradict = refl
 ending-reached e false true = refl
 ending-reached e false false = refl
 
@@ -220,5 +220,5 @@ announced-counted settings files =
           (omega arith) files,
       sum-of reached (λ s. s.stats.finished_count + s.skipped + s.not_run) (λ e s. omega arith) refl notes,
       ap (λ s. reached s.0) (run-sums settings files),
-      ending-reached r.totals (nat_lt r.cancels r.disagreements) (nat_lt 0 r.disagreements),
+      ending-reached r.totals (nat_lt r.cancels r.contradictions) (nat_lt 0 r.contradictions),
     )

@@ -4,7 +4,7 @@ use Rattle.std.specs.List.{fold, position, remove}
 use Rattle.std.specs.Option.{option_map_or}
 use Rattle.std.specs.Prelude.{◌==◌}
 use Rattle.std.proofs.lemmas.Bool.{cond_both}
-use Rattle.test_report_events.specs.Event.{EventView, SuiteEndView, TestEndView, SuiteStarts, SuiteEnds, TestStarts, TestEnds, TestIsSlow, OtherLine, HeadingLine, CargoFails, Prints, DamagedLine, CommandStarts, Cancels, CommandOver, AllEndEarly, ProgramDisagrees}
+use Rattle.test_report_events.specs.Event.{EventView, SuiteEndView, TestEndView, SuiteStarts, SuiteEnds, TestStarts, TestEnds, TestIsSlow, OtherLine, HeadingLine, CargoFails, Prints, DamagedLine, CommandStarts, Cancels, CommandOver, AllEndEarly, ProgramContradicts}
 use Rattle.test_report_events.specs.declared.event.TestResult.{TestResult}
 use Rattle.test_report_events.specs.declared.event.TestResult.TheVariants.{Ok, Failed, Ignored}
 use Rattle.test_report_run.specs.Events.{is_event}
@@ -67,7 +67,7 @@ aside-told r (CommandStarts names) h = absurd (cc)
 aside-told r (Cancels why) h = absurd (cc)
 aside-told r (CommandOver end) h = absurd (cc)
 aside-told r (AllEndEarly end) h = absurd (cc)
-aside-told r (ProgramDisagrees fault) h = absurd (cc)
+aside-told r (ProgramContradicts fault) h = absurd (cc)
 
 -- suites that end early
 aside-ends : (how : EarlyEnd) (t : Step) (suites : List SuiteState) → aside (fold (ended_early how) t suites).run ≡ aside t.run

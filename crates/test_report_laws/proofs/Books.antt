@@ -9,11 +9,11 @@ use Rattle.std.proofs.lemmas.List.Quantifiers.{position-Some}
 use Rattle.std.proofs.lemmas.List.Sums.{fold-append, sum_by-append, sum_by-cons, sum_by-remove, sum_by-set, sum_by_push}
 use Rattle.run_events_stats.specs.Counters.{counters_of, nothing_known}
 use Rattle.run_events_stats.specs.declared.stats.RunStats.{RunStats}
-use Rattle.test_report_events.specs.Event.{EventView, SuiteEndView, TestEndView, SuiteStarts, SuiteEnds, TestStarts, TestEnds, TestIsSlow, OtherLine, HeadingLine, CargoFails, Prints, DamagedLine, CommandStarts, Cancels, CommandOver, AllEndEarly, ProgramDisagrees}
+use Rattle.test_report_events.specs.Event.{EventView, SuiteEndView, TestEndView, SuiteStarts, SuiteEnds, TestStarts, TestEnds, TestIsSlow, OtherLine, HeadingLine, CargoFails, Prints, DamagedLine, CommandStarts, Cancels, CommandOver, AllEndEarly, ProgramContradicts}
 use Rattle.test_report_events.specs.declared.event.TestResult.{TestResult}
 use Rattle.test_report_events.specs.declared.event.TestResult.TheVariants.{Ok, Failed, Ignored}
 use Rattle.test_report_events.specs.declared.program.ProgramEnd.{ProgramEnd}
-use Rattle.test_report_run_notes.specs.Note.{Disagrees, DisagreementView, IsDamaged, OfProgram, NoteView, StrayEnds, StraySuiteEnds}
+use Rattle.test_report_run_notes.specs.Note.{Contradicts, ContradictionView, IsDamaged, OfProgram, NoteView, StrayEnds, StraySuiteEnds}
 use Rattle.test_report_run_notes.specs.declared.note.RunEnd.{RunEnd}
 use Rattle.test_report_laws.proofs.CargoReports.{OnlyReports, only-cargo, only-settled_at, only-told, reports-none}
 use Rattle.test_report_laws.proofs.EndSums.{last_by}
@@ -26,7 +26,7 @@ use Rattle.test_report_run.specs.Over.{EarlyEnd, crashed_of, early_by, early_not
 use Rattle.test_report_run.specs.Over as ending
 use Rattle.test_report_run.specs.Prints.{cut}
 use Rattle.test_report_run.specs.FileEnd.{after_file, file_notes, reports_told}
-use Rattle.test_report_run.specs.Run.{RunSettings, RunState, Step, after, all_ended_early, cargo_fails, counts_tests, early_end, ended_at, ended_early, heard, is_disagreement, learned, marked, notes_at, open_suite, opened, place_of_number, run_start, running_ends, running_over, settled_at, slow_at, started_again, step, stray_ends, stray_over, stray_suite_notes, stray_test, suite_at, suite_place, tests_in, told, told_at, unless_cancelled, with_note, with_suite_at, without_tests}
+use Rattle.test_report_run.specs.Run.{RunSettings, RunState, Step, after, all_ended_early, cargo_fails, counts_tests, early_end, ended_at, ended_early, heard, is_contradiction, learned, marked, notes_at, open_suite, opened, place_of_number, run_start, running_ends, running_over, settled_at, slow_at, started_again, step, stray_ends, stray_over, stray_suite_notes, stray_test, suite_at, suite_place, tests_in, told, told_at, unless_cancelled, with_note, with_suite_at, without_tests}
 use Rattle.test_report_run.specs.Running.{RunningView, is_same, place_of_end, running_at, with_slow}
 use Rattle.test_report_run.specs.Name.{before_dollar}
 use Rattle.test_report_run.specs.Suite.{FlakyView, OverView, SuiteState, cancelled_by, has_key, joined_by, named, outside_start, suite_start, with_line, with_start}
@@ -96,23 +96,23 @@ module _ (h : Kept → ℕ) where
   held-remove : (r : RunState) (at : ℕ) → at < length r.suites → sum_by held (remove r.suites at) + held (suite_at r (Some at)) ≡ sum_by held r.suites
   held-remove r at in' = sum_by-remove held r.suites at r.outside in'
 
--- the sums that a run keeps: over suites, of disagreements, and of failed tests and disagreements
+-- the sums that a run keeps: over suites, of contradictions, and of failed tests and contradictions
 abbrev Sums : Type 0
 Sums = RunEnd × ℕ
 
 abbrev pub sums_of : RunState → Sums
-sums_of r = (r.totals, r.disagreements)
+sums_of r = (r.totals, r.contradictions)
 
 abbrev learn : Sums → List NoteView → Sums
-learn s notes = (fold with_note s.0 notes, s.1 + count_by is_disagreement notes)
+learn s notes = (fold with_note s.0 notes, s.1 + count_by is_contradiction notes)
 
 abbrev pub sums_in : List NoteView → Sums
-sums_in notes = (fold with_note no_suites notes, count_by is_disagreement notes)
+sums_in notes = (fold with_note no_suites notes, count_by is_contradiction notes)
 
 learn-more : (notes more : List NoteView) → learn (sums_in notes) more ≡ sums_in (notes ++ more)
 learn-more notes more =
     let a = fold-append with_note no_suites notes more in
-    let b = sum_by-append (λ x. cond (is_disagreement x) 1 0) notes more in
+    let b = sum_by-append (λ x. cond (is_contradiction x) 1 0) notes more in
     cc
 
 -- what holds of a run at the end of a file, up to which these notes are known: one weight of the notes is within the other one
@@ -134,8 +134,8 @@ none-left how r = (ends-keep how (step (record r { suites = [] }) []) r.suites).
 
 -- weights of notes, of which the first speaks of tests and the second of suites, a weight of suites, and what holds of suites
 pub record Rules (loose : ℕ) (w v : NoteView → ℕ) (h : Kept → ℕ) (Fine : Kept → Type 0) : Type 0 where
-  pub w_disagree : (d : DisagreementView) → w (Disagrees d) ≡ 0
-  pub v_disagree : (d : DisagreementView) → v (Disagrees d) ≡ 0
+  pub w_contradict : (d : ContradictionView) → w (Contradicts d) ≡ 0
+  pub v_contradict : (d : ContradictionView) → v (Contradicts d) ≡ 0
   pub empty : h nothing ≡ 0
   pub fine_empty : Fine nothing
   pub of_end : (s : SuiteState) (t : OverView) (order : ℕ) (e : TestEndView) → Fine (kept s)
@@ -147,7 +147,7 @@ pub record Rules (loose : ℕ) (w v : NoteView → ℕ) (h : Kept → ℕ) (Fine
       → Within loose (sum_by w (last_by s e tests) + h (kept s)) (sum_by v (last_by s e tests))
 
 module _ {loose : ℕ} {w v : NoteView → ℕ} {h : Kept → ℕ} {Fine : Kept → Type 0} (rules : Rules loose w v h Fine) where
-  open rules use {w_disagree, v_disagree, empty, fine_empty, of_end, of_early, of_last}
+  open rules use {w_contradict, v_contradict, empty, fine_empty, of_end, of_early, of_last}
 
   abbrev IsFine : SuiteState → Type 0
   IsFine s = Fine (kept s)
@@ -192,9 +192,9 @@ module _ {loose : ℕ} {w v : NoteView → ℕ} {h : Kept → ℕ} {Fine : Kept 
   keeps-same : (r : RunState) (notes : List NoteView) → AreFine r → sum_by w notes ≡ 0 → sum_by v notes ≡ 0 → Keeps r (step r notes)
   keeps-same r notes f a b = (record { low = omega arith; high = λ _. omega arith }, f, refl)
 
-  keeps-if : (r : RunState) (b : Bool) (d : DisagreementView) → AreFine r → Keeps r (step r (if b then Disagrees d ∷ [] else []))
-  keeps-if r b d f = keeps-same r (if b then Disagrees d ∷ [] else []) f
-      (sum-if-none w b (Disagrees d) (w_disagree d)) (sum-if-none v b (Disagrees d) (v_disagree d))
+  keeps-if : (r : RunState) (b : Bool) (d : ContradictionView) → AreFine r → Keeps r (step r (if b then Contradicts d ∷ [] else []))
+  keeps-if r b d f = keeps-same r (if b then Contradicts d ∷ [] else []) f
+      (sum-if-none w b (Contradicts d) (w_contradict d)) (sum-if-none v b (Contradicts d) (v_contradict d))
 
   -- the first line of a suite
   keeps-first : (r : RunState) (key : Option (List ℕ)) (count : Option ℕ) (at : Option ℕ) → AreFine r → IsIn r.suites at
@@ -252,10 +252,10 @@ module _ {loose : ℕ} {w v : NoteView → ℕ} {h : Kept → ℕ} {Fine : Kept 
       let test = stray_test r end in
       let d = StrayEnds e.name Failed in
       let k = keeps-end r at (named (suite_at r at) e.name) (stray_over r e) 0 end f (place-in r e.name) refl in
-      let a = sum_by-append w test (Disagrees d ∷ []) in
-      let b = sum_by-append v test (Disagrees d ∷ []) in
-      let none = sum-if-none w true (Disagrees d) (w_disagree d) in
-      let none' = sum-if-none v true (Disagrees d) (v_disagree d) in
+      let a = sum_by-append w test (Contradicts d ∷ []) in
+      let b = sum_by-append v test (Contradicts d ∷ []) in
+      let none = sum-if-none w true (Contradicts d) (w_contradict d) in
+      let none' = sum-if-none v true (Contradicts d) (v_contradict d) in
       (record { low = omega (arith, k.0.low); high = λ x. omega (arith, k.0.high x) }, k.1, k.2)
   keeps-stray r e Ignored f =
       let at = suite_place r e.name in
@@ -322,8 +322,8 @@ module _ {loose : ℕ} {w v : NoteView → ℕ} {h : Kept → ℕ} {Fine : Kept 
   keeps-reports : (r : RunState) (t : Step) → AreFine r → OnlyReports r t → Keeps r t
   keeps-reports r t f only =
       let same : all_held h t.run ≡ all_held h r = ap (all_held h) only.run_is in
-      let a = reports-none only w (λ report. w_disagree _) in
-      let b = reports-none only v (λ report. v_disagree _) in
+      let a = reports-none only w (λ report. w_contradict _) in
+      let b = reports-none only v (λ report. v_contradict _) in
       (record { low = omega arith; high = λ _. omega arith }, subst AreFine (sym only.run_is) f, ap sums_of only.run_is)
 
   keeps-line : (r : RunState) (e : EventView) → AreFine r → Keeps r (told r e)
@@ -345,7 +345,7 @@ module _ {loose : ℕ} {w v : NoteView → ℕ} {h : Kept → ℕ} {Fine : Kept 
   keeps-line r (Cancels why) f = (record { low = omega arith; high = λ _. omega arith }, f, refl)
   keeps-line r (CommandOver end) f = (record { low = omega arith; high = λ _. omega arith }, f, refl)
   keeps-line r (AllEndEarly end) f = keeps-ends (early_end r end) r f
-  keeps-line r (ProgramDisagrees fault) f = keeps-if r true (unless_cancelled r (OfProgram fault)) f
+  keeps-line r (ProgramContradicts fault) f = keeps-if r true (unless_cancelled r (OfProgram fault)) f
 
   -- one step after the other
   keeps-both : (r : RunState) (s t : Step) → Keeps r s → Keeps s.run t → Keeps r (step t.run (s.notes ++ t.notes))
@@ -407,10 +407,10 @@ module _ {loose : ℕ} {w v : NoteView → ℕ} {h : Kept → ℕ} {Fine : Kept 
       let gone : all_held h (suites_over r).run ≡ 0 = omega (arith, empty, ap (sum_by (held h)) closed) in
       let x = sum_by-append w notes (file_notes r) in
       let y = sum_by-append v notes (file_notes r) in
-      let a = suites-alone w w_disagree r in
-      let b = suites-alone v v_disagree r in
-      let c = reports-none (only-told r) w (λ report. w_disagree _) in
-      let d = reports-none (only-told r) v (λ report. v_disagree _) in
+      let a = suites-alone w w_contradict r in
+      let b = suites-alone v v_contradict r in
+      let c = reports-none (only-told r) w (λ report. w_contradict _) in
+      let d = reports-none (only-told r) v (λ report. v_contradict _) in
       record {
         whole = record {
           low = omega (arith, before.low, known.low, last.low);

@@ -5,10 +5,10 @@ use Rattle.std.specs.Option.{option_map_or}
 use Rattle.std.specs.Prelude.{◌==◌, ◌&&◌, not}
 use Rattle.std.proofs.lemmas.Bool.{cond_both, ltb-true}
 use Rattle.std.proofs.lemmas.List.Sums.{sum_by-append}
-use Rattle.test_report_events.specs.Event.{AllEndEarly, CargoFails, CommandOver, CommandStarts, Cancels, DamagedLine, EventView, HeadingLine, Prints, ProgramDisagrees}
+use Rattle.test_report_events.specs.Event.{AllEndEarly, CargoFails, CommandOver, CommandStarts, Cancels, DamagedLine, EventView, HeadingLine, Prints, ProgramContradicts}
 use Rattle.test_report_events.specs.declared.event.CargoFailure.{CargoFailure}
 use Rattle.test_report_events.specs.declared.event.CargoFailure.TheVariants.{Build, Tests, Run}
-use Rattle.test_report_run_notes.specs.Note.{CargoSays, CargoView, Disagrees, NoteView}
+use Rattle.test_report_run_notes.specs.Note.{CargoSays, CargoView, Contradicts, NoteView}
 use Rattle.test_report_laws.proofs.Aside.{aside-early, aside-told}
 use Rattle.test_report_laws.proofs.CargoReports.{if_some, none-reported, only-settled_at, ready, whole}
 use Rattle.test_report_laws.proofs.CauseCounts.{Bound, bound-after, bound-ready, held-known}
@@ -23,7 +23,7 @@ use Rattle.test_report_run.specs.Others.{after_failure}
 use Rattle.test_report_run.specs.Suite.{SuiteState}
 use Rattle.test_report_run.specs.FileEnd.{after_file, file_notes, held_told}
 use Rattle.test_report_run.specs.Over.{nothing_known}
-use Rattle.test_report_run.specs.Run.{RunSettings, RunState, Step, after, cargo_fails, disagrees, early_end, is_cause, is_explained, notes_at, report_told, run_start, settled, settled_at, step, told, with_report}
+use Rattle.test_report_run.specs.Run.{RunSettings, RunState, Step, after, cargo_fails, contradicts, early_end, is_cause, is_explained, notes_at, report_told, run_start, settled, settled_at, step, told, with_report}
 
 -- a command that has started is known up to the end of the file
 of-settled : (r : RunState) (e : EventView) → (ready r e).of_command ≡ r.of_command
@@ -31,7 +31,7 @@ of-settled r e = ap (λ (x : RunState). x.of_command) (only-settled_at r e).run_
 
 of-told : (r : RunState) (e : EventView) → (told r e).run.of_command ≡ false → r.of_command ≡ false
 of-told r (HeadingLine name path) h = h
-of-told r (CargoFails f line plain) h = cond_both (disagrees r f) (with_report r plain) r
+of-told r (CargoFails f line plain) h = cond_both (contradicts r f) (with_report r plain) r
     (λ (x : RunState). (record x { others = after_failure r.others }).of_command ≡ false → r.of_command ≡ false) (λ _ h. h) (λ _ h. h) h
 of-told r (Prints line plain) h = h
 of-told r (DamagedLine text) h = h
@@ -39,7 +39,7 @@ of-told r (CommandStarts names) h = absurd (cc)
 of-told r (Cancels why) h = h
 of-told r (CommandOver end) h = h
 of-told r (AllEndEarly end) h = sym (ap (λ (x : RunState). x.of_command) (aside-early (early_end r end) r)) ∙ h
-of-told r (ProgramDisagrees fault) h = h
+of-told r (ProgramContradicts fault) h = h
 of-told r e h = sym (ap (λ (x : RunState). x.of_command) (aside-told r e refl)) ∙ h
 
 of-after : (r : RunState) (e : EventView) → (after r e).of_command ≡ (told (ready r e) e).run.of_command
@@ -63,7 +63,7 @@ held-settled r heard i = by-report r.reported
     by-report : (o : Option CargoView) → NoneHeld (option_map_or (report_told r heard) o (step r [])).run
     by-report None = i
     by-report (Some report) = cond_both r.of_command (step (record r { reported = None; held = r.held ++ whole r heard report ∷ [] }) [])
-        (step (record r { reported = None }) (Disagrees (CargoSays (whole r heard report)) ∷ [])) (λ (t : Step). NoneHeld t.run)
+        (step (record r { reported = None }) (Contradicts (CargoSays (whole r heard report)) ∷ [])) (λ (t : Step). NoneHeld t.run)
         (λ some none. absurd (cc)) (λ _. i)
 
 held-ready : (r : RunState) (e : EventView) → NoneHeld r → NoneHeld (ready r e)
@@ -72,7 +72,7 @@ held-ready r e i = cond_both (is_after_report e) (settled r (is_event e)) (step 
 
 held-told : (r : RunState) (e : EventView) → (told r e).run.held ≡ r.held
 held-told r (HeadingLine name path) = refl
-held-told r (CargoFails f line plain) = cond_both (disagrees r f) (with_report r plain) r
+held-told r (CargoFails f line plain) = cond_both (contradicts r f) (with_report r plain) r
     (λ (x : RunState). (record x { others = after_failure r.others }).held ≡ r.held) (λ _. refl) (λ _. refl)
 held-told r (Prints line plain) = refl
 held-told r (DamagedLine text) = refl
@@ -80,7 +80,7 @@ held-told r (CommandStarts names) = refl
 held-told r (Cancels why) = refl
 held-told r (CommandOver end) = refl
 held-told r (AllEndEarly end) = ap (λ (x : RunState). x.held) (aside-early (early_end r end) r)
-held-told r (ProgramDisagrees fault) = refl
+held-told r (ProgramContradicts fault) = refl
 held-told r e = ap (λ (x : RunState). x.held) (aside-told r e refl)
 
 held-after : (r : RunState) (e : EventView) → (after r e).held ≡ (told (ready r e) e).run.held
@@ -110,7 +110,7 @@ settled-shows r heard none = by-report r.reported
         → if_some o ≤ sum_by weight (option_map_or (report_told r heard) o (step r [])).notes
     by-report None = omega arith
     by-report (Some report) = cond_both r.of_command (step (record r { reported = None; held = r.held ++ whole r heard report ∷ [] }) [])
-        (step (record r { reported = None }) (Disagrees (CargoSays (whole r heard report)) ∷ [])) (λ (t : Step). 1 ≤ sum_by weight t.notes)
+        (step (record r { reported = None }) (Contradicts (CargoSays (whole r heard report)) ∷ [])) (λ (t : Step). 1 ≤ sum_by weight t.notes)
         (λ some. absurd (cc)) (λ _. omega arith)
 
 ready-shows : (r : RunState) (e : EventView) → r.of_command ≡ false → last_waits r ≤ sum_by weight (settled_at r e).notes + last_waits (ready r e)
@@ -128,7 +128,7 @@ told-waits r (CommandStarts names) = omega arith
 told-waits r (Cancels why) = omega arith
 told-waits r (CommandOver end) = omega arith
 told-waits r (AllEndEarly end) = omega (arith, ap last_waits (aside-early (early_end r end) r))
-told-waits r (ProgramDisagrees fault) = omega arith
+told-waits r (ProgramContradicts fault) = omega arith
 told-waits r e = omega (arith, ap last_waits (aside-told (ready r e) e refl))
 
 after-waits : (r : RunState) (e : EventView) → last_waits (after r e) ≡ last_waits (told (ready r e) e).run
@@ -156,7 +156,7 @@ rest-shows r (e ∷ rest) none = omega (
   sum_by-append weight (notes_at r e) (notes_of (after r e) rest),
 )
 
--- a failure of cargo is explained only if something failed or disagreed
+-- a failure of cargo is explained only if there is a failed test or a contradiction
 some-cause : (r : RunState) (f : CargoFailure) → is_explained r f ≡ true → 0 < r.causes
 some-cause r Build h = absurd (cc)
 some-cause r Tests h = omega (arith, ltb-true r.causes_at_cargo r.causes h)
@@ -171,7 +171,7 @@ not-both false explained h k = absurd (cc)
 cargo-waits : (r : RunState) (f : CargoFailure) (line : List ℕ) → r.suites ≡ [] → 0 < last_waits (cargo_fails r f line) + r.causes
 cargo-waits r f line none =
     let empty : (length r.suites == 0) ≡ true = ap (λ (suites : List SuiteState). length suites == 0) none in
-    cond_both (disagrees r f) (with_report r line) r
+    cond_both (contradicts r f) (with_report r line) r
     (λ (x : RunState). 0 < last_waits (record x { others = after_failure r.others }) + r.causes) (λ _. omega arith)
     (λ quiet. omega (arith, some-cause r f (not-both (length r.suites == 0) (is_explained r f) empty quiet)))
 

@@ -8,12 +8,12 @@ use Rattle.std.proofs.lemmas.List.{length-append, length-map, map-append}
 use Rattle.std.proofs.lemmas.List.Sums.{sum_by-append}
 use Rattle.test_report_events.specs.Event.{EventView}
 use Rattle.test_report_events.specs.declared.event.CargoFailure.{CargoFailure}
-use Rattle.test_report_run_notes.specs.Note.{CargoSays, CargoView, Disagrees, NoteView, ended_well}
+use Rattle.test_report_run_notes.specs.Note.{CargoSays, CargoView, Contradicts, NoteView, ended_well}
 use Rattle.test_report_laws.proofs.Sums.{sum-map, sum-none, sum-ones}
 use Rattle.test_report_run.specs.Events.{is_after_report, is_event}
 use Rattle.test_report_run.specs.Others.{after_failure}
 use Rattle.test_report_run.specs.FileEnd.{at_end, held_reports, held_told, reports_told}
-use Rattle.test_report_run.specs.Run.{RunState, Step, cargo_fails, disagrees, notes_at, report_told, settled, settled_at, step, told, with_report}
+use Rattle.test_report_run.specs.Run.{RunState, Step, cargo_fails, contradicts, notes_at, report_told, settled, settled_at, step, told, with_report}
 
 -- the run with other failures of cargo that are not known yet, and another number of causes
 abbrev pub with_reports : RunState → Option CargoView → List CargoView → ℕ → RunState
@@ -21,7 +21,7 @@ with_reports r reported held causes = record r { reported = reported; held = hel
 
 -- what failures of cargo make known
 abbrev pub report_notes : List CargoView → List NoteView
-report_notes reports = map (λ (report : CargoView). Disagrees (CargoSays report)) reports
+report_notes reports = map (λ (report : CargoView). Contradicts (CargoSays report)) reports
 
 -- a step changes nothing else of a run, and makes nothing else known
 pub record OnlyReports (r : RunState) (t : Step) : Type 0 where
@@ -34,11 +34,11 @@ pub record OnlyReports (r : RunState) (t : Step) : Type 0 where
 
 module _ {r : RunState} {t : Step} (only : OnlyReports r t) (w : NoteView → ℕ) where
   -- notes of a weight in which such failures weigh nothing, or 1
-  pub reports-none : ((report : CargoView) → w (Disagrees (CargoSays report)) ≡ 0) → sum_by w t.notes ≡ 0
+  pub reports-none : ((report : CargoView) → w (Contradicts (CargoSays report)) ≡ 0) → sum_by w t.notes ≡ 0
   reports-none none =
       ap (sum_by w) only.notes_are
-      ∙ (sum-map w (λ (report : CargoView). Disagrees (CargoSays report)) only.reports
-      ∙ sum-none (λ (report : CargoView). w (Disagrees (CargoSays report))) none only.reports)
+      ∙ (sum-map w (λ (report : CargoView). Contradicts (CargoSays report)) only.reports
+      ∙ sum-none (λ (report : CargoView). w (Contradicts (CargoSays report))) none only.reports)
 
 -- no failure of cargo becomes known
 only-same : (r : RunState) → OnlyReports r (step r [])
@@ -50,7 +50,7 @@ whole r heard report = record report { cause = r.others.last_cause; lacks_events
 
 only-report : (r : RunState) (heard : Bool) (report : CargoView) → OnlyReports r (report_told r heard report)
 only-report r heard report = cond_both r.of_command (step (record r { reported = None; held = r.held ++ whole r heard report ∷ [] }) [])
-    (step (record r { reported = None }) (Disagrees (CargoSays (whole r heard report)) ∷ [])) (OnlyReports r)
+    (step (record r { reported = None }) (Contradicts (CargoSays (whole r heard report)) ∷ [])) (OnlyReports r)
     (λ _. record {
       reported = None;
       held = r.held ++ whole r heard report ∷ [];
@@ -88,7 +88,7 @@ only-both r s t first second = record {
   reports = first.reports ++ second.reports;
   notes_are = ap (λ ns. ns ++ t.notes) first.notes_are
       ∙ (ap (λ ns. report_notes first.reports ++ ns) second.notes_are
-      ∙ sym (map-append (λ (report : CargoView). Disagrees (CargoSays report)) first.reports second.reports));
+      ∙ sym (map-append (λ (report : CargoView). Contradicts (CargoSays report)) first.reports second.reports));
 }
 
 pub only-told : (r : RunState) → OnlyReports r (reports_told r)
@@ -97,7 +97,7 @@ only-told r = only-both r (settled r false) (held_told (settled r false).run) (o
 -- a failure of cargo
 pub only-cargo : (r : RunState) (f : CargoFailure) (line : List ℕ)
     → OnlyReports (record r { others = after_failure r.others; lacked_events = (cargo_fails r f line).lacked_events }) (step (cargo_fails r f line) [])
-only-cargo r f line = cond_both (disagrees r f) (with_report r line) r
+only-cargo r f line = cond_both (contradicts r f) (with_report r line) r
     (λ (x : RunState). OnlyReports (record r { others = after_failure r.others; lacked_events = x.lacked_events })
     (step (record x { others = after_failure r.others }) []))
     (λ _. record {
@@ -126,19 +126,19 @@ if_some o = option_map_or (λ (report : CargoView). 1) o 0
 abbrev pub waiting : RunState → ℕ
 waiting r = if_some r.reported + length r.held
 
--- as many of them become known as do not wait any more, or were prints: there are no more causes than failed tests and disagreements that are known,
+-- as many of them become known as do not wait any more, or were prints: there are no more causes than failed tests and contradictions that are known,
 -- and such failures
 abbrev pub Counted : RunState → Step → ℕ → Type 0
 Counted r t more = (known : ℕ) → r.causes ≤ known + waiting r → t.run.causes ≤ known + more + waiting t.run
 
-module _ (w : NoteView → ℕ) (one : (report : CargoView) → w (Disagrees (CargoSays report)) ≡ 1) where
+module _ (w : NoteView → ℕ) (one : (report : CargoView) → w (Contradicts (CargoSays report)) ≡ 1) where
   counted-report : (r : RunState) (heard : Bool) (report : CargoView) → r.reported ≡ Some report
       → Counted r (report_told r heard report) (sum_by w (report_told r heard report).notes)
   counted-report r heard report is =
       let waits = ap if_some is in
       let longer = length-append r.held (whole r heard report ∷ []) in
       cond_both r.of_command (step (record r { reported = None; held = r.held ++ whole r heard report ∷ [] }) [])
-      (step (record r { reported = None }) (Disagrees (CargoSays (whole r heard report)) ∷ [])) (λ (t : Step). Counted r t (sum_by w t.notes))
+      (step (record r { reported = None }) (Contradicts (CargoSays (whole r heard report)) ∷ [])) (λ (t : Step). Counted r t (sum_by w t.notes))
       (λ _ known low. omega (arith, low, waits, longer)) (λ _ known low. omega (arith, low, waits, one (whole r heard report)))
 
   counted-settled : (r : RunState) (heard : Bool) → Counted r (settled r heard) (sum_by w (settled r heard).notes)
@@ -155,8 +155,8 @@ module _ (w : NoteView → ℕ) (one : (report : CargoView) → w (Disagrees (Ca
 
   counted-held : (r : RunState) → Counted r (held_told r) (sum_by w (held_told r).notes)
   counted-held r =
-      let all = sum-map w (λ (report : CargoView). Disagrees (CargoSays report)) (held_reports r) in
-      let each = sum-ones (λ (report : CargoView). w (Disagrees (CargoSays report))) one (held_reports r) in
+      let all = sum-map w (λ (report : CargoView). Contradicts (CargoSays report)) (held_reports r) in
+      let each = sum-ones (λ (report : CargoView). w (Contradicts (CargoSays report))) one (held_reports r) in
       let many = length-map r.held (at_end r.has_event) in
       cond_both (ended_well r.command) (step (record r { held = []; causes = r.causes - length r.held }) [])
       (step (record r { held = [] }) (report_notes (held_reports r))) (λ (t : Step). Counted r t (sum_by w t.notes))
@@ -176,11 +176,11 @@ none-reported r heard = by-report r.reported refl
     by-report : (o : Option CargoView) → r.reported ≡ o → (option_map_or (report_told r heard) o (step r [])).run.reported ≡ None
     by-report None is = is
     by-report (Some report) is = cond_both r.of_command (step (record r { reported = None; held = r.held ++ whole r heard report ∷ [] }) [])
-        (step (record r { reported = None }) (Disagrees (CargoSays (whole r heard report)) ∷ [])) (λ (t : Step). t.run.reported ≡ None) (λ _. refl) (λ _. refl)
+        (step (record r { reported = None }) (Contradicts (CargoSays (whole r heard report)) ∷ [])) (λ (t : Step). t.run.reported ≡ None) (λ _. refl) (λ _. refl)
 
 pub counted-cargo : (r : RunState) (f : CargoFailure) (line : List ℕ) → r.reported ≡ None → Counted r (step (cargo_fails r f line) []) 0
 counted-cargo r f line none =
     let waits = ap if_some none in
-    cond_both (disagrees r f) (with_report r line) r
+    cond_both (contradicts r f) (with_report r line) r
     (λ (x : RunState). Counted r (step (record x { others = after_failure r.others }) []) 0)
     (λ _ known low. omega (arith, low, waits)) (λ _ known low. omega (arith, low))

@@ -1,11 +1,11 @@
--- No more causes are counted in a run than failed tests and disagreements are known, and failures of cargo wait.
+-- No more causes are counted in a run than failed tests and contradictions are known, and failures of cargo wait.
 use Rattle.std.proofs.Common.{◌≡◌, ◌∙◌, ◌≤◌, ◌+◌, ◌++◌, ℕ, List, [], cond, false, ap, arith, length, refl}
 use Rattle.std.specs.List.{count_by, sum_by}
 use Rattle.std.specs.Prelude.{◌-◌}
 use Rattle.std.proofs.lemmas.Bool.{cond_both}
 use Rattle.std.proofs.lemmas.List.Sums.{sum_by-append, sum_by-le-sum_by}
-use Rattle.test_report_events.specs.Event.{AllEndEarly, CargoFails, CommandOver, CommandStarts, Cancels, DamagedLine, EventView, HeadingLine, Prints, ProgramDisagrees}
-use Rattle.test_report_run_notes.specs.Note.{CargoView, Disagrees, NoteView, TestIs, ended_well, is_new_disagreement}
+use Rattle.test_report_events.specs.Event.{AllEndEarly, CargoFails, CommandOver, CommandStarts, Cancels, DamagedLine, EventView, HeadingLine, Prints, ProgramContradicts}
+use Rattle.test_report_run_notes.specs.Note.{CargoView, Contradicts, NoteView, TestIs, ended_well, is_new_contradiction}
 use Rattle.test_report_laws.proofs.Aside.{aside-early, aside-told}
 use Rattle.test_report_laws.proofs.CargoReports.{Counted, counted-cargo, counted-settled_at, counted-told, if_some, none-reported, only-settled_at, only-told, ready, report_notes, reports-none, waiting}
 use Rattle.test_report_laws.proofs.FileEnds.{counted_run, end-parts, reported_run, suites_over}
@@ -23,7 +23,7 @@ new note = cond (is_new_cause note) 1 0
 
 new-weighs : (note : NoteView) → new note ≤ weight note
 new-weighs (TestIs t) = grind arith
-new-weighs (Disagrees d) = one-most (is_new_disagreement d)
+new-weighs (Contradicts d) = one-most (is_new_contradiction d)
 new-weighs note = omega arith
 
 new-low : (notes : List NoteView) → sum_by new notes ≤ sum_by weight notes
@@ -45,7 +45,7 @@ counted-own r (CommandOver end) = λ known low. omega (arith, low)
 counted-own r (AllEndEarly end) =
     let same = aside-early (early_end r end) r in
     λ known low. omega (arith, low, ap (λ (x : RunState). x.causes) same, ap (λ (x : RunState). waiting x) same)
-counted-own r (ProgramDisagrees fault) = λ known low. omega (arith, low)
+counted-own r (ProgramContradicts fault) = λ known low. omega (arith, low)
 counted-own r e =
     let same = aside-told (ready r e) e refl in
     λ known low. omega (arith, low, ap (λ (x : RunState). x.causes) same, ap (λ (x : RunState). waiting x) same)

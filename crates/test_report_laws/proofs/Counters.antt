@@ -223,8 +223,8 @@ module _ (counter : RunStats → ℕ) (rule : OutcomeView → ℕ → Bool → �
 
   pub counter-rules : Rules 0 (of_test rule) (of_suite (λ s. counter s.stats)) (λ k. counter k.stats) Sound
   counter-rules = record {
-    w_disagree = λ d. refl;
-    v_disagree = λ d. refl;
+    w_contradict = λ d. refl;
+    v_contradict = λ d. refl;
     empty = empty;
     fine_empty = record { late = All-nil IsLate; passed = omega arith; fair = omega arith };
     of_end = λ s t order e sound. (omega (arith, at-end s t order e e.result, no-suite s t e e.result), end-sound s t order e e.result sound);

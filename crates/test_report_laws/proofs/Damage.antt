@@ -36,7 +36,7 @@ unclean settings files some clean = omega (
   causes-of
       (all_notes settings files),
   clean.none_failed,
-  clean.none_disagree,
+  clean.none_contradict,
 )
 
 pub damage-shows : DamagedLineShows

@@ -4,11 +4,11 @@ use Rattle.std.specs.List.{sum_by}
 use Rattle.std.specs.Prelude.{◌-◌}
 use Rattle.std.proofs.lemmas.List.Sums.{sum_by-append, sum_by-cons}
 use Rattle.test_report_events.specs.declared.program.ProgramEnd.{ProgramEnd}
-use Rattle.test_report_run_notes.specs.Note.{CrashView, Disagrees, DisagreementView, HasCrashed, HasNoEnd, IsNotRun, NoteView, SuiteIs}
+use Rattle.test_report_run_notes.specs.Note.{CrashView, Contradicts, ContradictionView, HasCrashed, HasNoEnd, IsNotRun, NoteView, SuiteIs}
 use Rattle.test_report_laws.proofs.Sums.{sum-all, sum-map}
 use Rattle.test_report_run.specs.Running.{RunningView}
 use Rattle.test_report_run.specs.Others.{OthersView}
-use Rattle.test_report_run.specs.Over.{crash_again, crash_of, crashed_notes, early_by, early_disagreements, early_state, failed_note, failed_notes, flaky_note, flaky_notes, initial_of, last_disagreement, last_state, lost, number_notes, rest_of, skipped_note, stopped_note}
+use Rattle.test_report_run.specs.Over.{crash_again, crash_of, crashed_notes, early_by, early_contradictions, early_state, failed_note, failed_notes, flaky_note, flaky_notes, initial_of, last_contradiction, last_state, lost, number_notes, rest_of, skipped_note, stopped_note}
 use Rattle.test_report_run.specs.Suite.{FlakyView, SuiteState, suite_name}
 use Rattle.test_report_laws.proofs.Types.{Explanation, Rest}
 
@@ -32,7 +32,7 @@ last_by s e tests =
     map (skipped_note s) (take e.skipped tests)
     ++ (failed_notes s HasNoEnd (lost e tests)
     ++ (flaky_notes s e.flaky_failed
-    ++ (last_disagreement (last_state s e tests)
+    ++ (last_contradiction (last_state s e tests)
     ++ number_notes (last_state s e tests) (rest_of s e tests))))
 
 -- the notes of crashed tests, where each weighs 1, or each of them nothing
@@ -65,7 +65,7 @@ module _ (w : NoteView → ℕ) (not_run : (suite : List ℕ) (n of : ℕ) → w
       ≡ sum_by w (crashed_notes s (crash_of others end s (length crashed)) crashed)
       + (sum_by (λ test. w (stopped_note s test)) stopped
       + (sum_by (λ f. w (flaky_note s false f)) s.flaky
-      + (sum_by w (early_disagreements s end (length crashed)) + w (suite_note (early_state s crashed) (early_rest s stopped)))))
+      + (sum_by w (early_contradictions s end (length crashed)) + w (suite_note (early_state s crashed) (early_rest s stopped)))))
   of-early-all others end s crashed stopped =
       simp (sum_by-append, sum-map) (omega (arith, simp sum_by-append at (of-numbers (early_state s crashed) (early_rest s stopped))))
 
@@ -74,18 +74,18 @@ module _ (w : NoteView → ℕ) (not_run : (suite : List ℕ) (n of : ℕ) → w
       ≡ sum_by (λ test. w (skipped_note s test)) (take e.skipped tests)
       + (sum_by (λ test. w (failed_note s HasNoEnd test)) (lost e tests)
       + (sum_by (λ f. w (flaky_note s e.flaky_failed f)) s.flaky
-      + (sum_by w (last_disagreement (last_state s e tests)) + w (suite_note (last_state s e tests) (rest_of s e tests)))))
+      + (sum_by w (last_contradiction (last_state s e tests)) + w (suite_note (last_state s e tests) (rest_of s e tests)))))
   of-last-all s e tests =
       simp (sum_by-append, sum-map) (omega (arith, simp sum_by-append at (of-numbers (last_state s e tests) (rest_of s e tests))))
 
 -- a weight of notes, in which those that name no test and no suite weigh nothing
-module _ (w : NoteView → ℕ) (disagree : (d : DisagreementView) → w (Disagrees d) ≡ 0)
+module _ (w : NoteView → ℕ) (contradict : (d : ContradictionView) → w (Contradicts d) ≡ 0)
     (not_run : (suite : List ℕ) (n of : ℕ) → w (IsNotRun suite n of) ≡ 0) where
-  pub of-early_disagreements : (s : SuiteState) (end : Option ProgramEnd) (crashed : ℕ) → sum_by w (early_disagreements s end crashed) ≡ 0
-  of-early_disagreements s end crashed = grind (arith, disagree)
+  pub of-early_contradictions : (s : SuiteState) (end : Option ProgramEnd) (crashed : ℕ) → sum_by w (early_contradictions s end crashed) ≡ 0
+  of-early_contradictions s end crashed = grind (arith, contradict)
 
-  of-last_disagreement : (s : SuiteState) → sum_by w (last_disagreement s) ≡ 0
-  of-last_disagreement s = grind (arith, disagree)
+  of-last_contradiction : (s : SuiteState) → sum_by w (last_contradiction s) ≡ 0
+  of-last_contradiction s = grind (arith, contradict)
 
   pub of-early : (others : OthersView) (end : Option ProgramEnd) (s : SuiteState) (crashed stopped : List RunningView)
       → sum_by w (early_by others end s crashed stopped)
@@ -93,13 +93,13 @@ module _ (w : NoteView → ℕ) (disagree : (d : DisagreementView) → w (Disagr
       + (sum_by (λ test. w (stopped_note s test)) stopped
       + (sum_by (λ f. w (flaky_note s false f)) s.flaky + w (suite_note (early_state s crashed) (early_rest s stopped))))
   of-early others end s crashed stopped =
-      omega (arith, of-early-all w not_run others end s crashed stopped, of-early_disagreements s end (length crashed))
+      omega (arith, of-early-all w not_run others end s crashed stopped, of-early_contradictions s end (length crashed))
 
   pub of-last : (s : SuiteState) (e : Explanation) (tests : List RunningView) → sum_by w (last_by s e tests)
       ≡ sum_by (λ test. w (failed_note s HasNoEnd test)) (lost e tests)
       + (sum_by (λ f. w (flaky_note s e.flaky_failed f)) s.flaky
       + (sum_by (λ test. w (skipped_note s test)) (take e.skipped tests) + w (suite_note (last_state s e tests) (rest_of s e tests))))
-  of-last s e tests = omega (arith, of-last-all w not_run s e tests, of-last_disagreement (last_state s e tests))
+  of-last s e tests = omega (arith, of-last-all w not_run s e tests, of-last_contradiction (last_state s e tests))
 
   -- the same where each test of a kind weighs 1, or each of them nothing
   pub by-early : (crashes : Bool) (others : OthersView) (end : Option ProgramEnd) (s : SuiteState) (crashed stopped : List RunningView)

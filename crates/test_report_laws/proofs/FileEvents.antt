@@ -6,8 +6,8 @@ use Rattle.std.specs.Prelude.{◌==◌, ◌&&◌, ◌||◌, if◌then◌else◌,
 use Rattle.std.proofs.lemmas.Bool.{cases_lt, eqb-true}
 use Rattle.std.proofs.lemmas.Bool.Decides.{nat_tests}
 use Rattle.std.proofs.lemmas.List.Sums.{sum_by-append, sum_by-cons}
-use Rattle.test_report_events.specs.Event.{AllEndEarly, BySignal, CargoFails, CommandOver, CommandStarts, Cancels, CommandView, DamagedLine, EventView, HeadingLine, NotStarted, OtherLine, Prints, ProgramDisagrees, SuiteEnds, SuiteStarts, TestEnds, TestIsSlow, TestStarts, WithError, WithStatus}
-use Rattle.test_report_run_notes.specs.Note.{CommandFails, Disagrees, HasNoEvent, ended_well, was_not_started}
+use Rattle.test_report_events.specs.Event.{AllEndEarly, BySignal, CargoFails, CommandOver, CommandStarts, Cancels, CommandView, DamagedLine, EventView, HeadingLine, NotStarted, OtherLine, Prints, ProgramContradicts, SuiteEnds, SuiteStarts, TestEnds, TestIsSlow, TestStarts, WithError, WithStatus}
+use Rattle.test_report_run_notes.specs.Note.{CommandFails, Contradicts, HasNoEvent, ended_well, was_not_started}
 use Rattle.test_report_laws.proofs.Aside.{aside-early}
 use Rattle.test_report_laws.proofs.CargoReports.{only-cargo, only-settled_at, only-told, ready}
 use Rattle.test_report_laws.proofs.CauseCounts.{Bound, bound-after, bound-told, none-waits, quiet-causes}
@@ -38,7 +38,7 @@ none-told r (CommandStarts names) other = refl
 none-told r (Cancels why) other = refl
 none-told r (CommandOver end) other = refl
 none-told r (AllEndEarly end) other = ap (λ (x : RunState). x.has_event) (aside-early (early_end r end) r)
-none-told r (ProgramDisagrees fault) other = refl
+none-told r (ProgramContradicts fault) other = refl
 
 none-after : (r : RunState) (e : EventView) → is_event e ≡ false → (after r e).has_event ≡ (told (ready r e) e).run.has_event
 none-after r (SuiteStarts key count) other = absurd (cc)
@@ -68,10 +68,10 @@ none-between : (r : RunState) (files : List (List EventView)) → r.has_event �
 none-between r [] is = is
 none-between r (file ∷ files) is = none-between (run_after_file r file) files refl
 
--- a file without events, in which nothing failed or disagreed, disagrees
+-- a file without events, failed tests and contradictions is a contradiction
 one-if-silent : (has : Bool) (before now : ℕ) (command : Option CommandView) (file : Option (List ℕ)) → has ≡ false → now ≡ 0 → command ≡ None
     → sum_by weight (if not has && (not (nat_lt before now) && not (ended_well command || was_not_started command))
-    then Disagrees (HasNoEvent file) ∷ [] else []) ≡ 1
+    then Contradicts (HasNoEvent file) ∷ [] else []) ≡ 1
 one-if-silent has before now None file none zero is = grind (arith, nat_tests, none, zero)
 one-if-silent has before now (Some end) file none zero is = absurd (cc)
 
@@ -85,7 +85,7 @@ silent-cause r none alone zero =
     (ap (λ (x : RunState). x.command) same ∙ (ap (λ (x : RunState). x.command) told ∙ alone)) in
     omega (arith, one, end-parts weight r)
 
--- a command that did not end with status 0 disagrees if nothing else failed or disagreed
+-- a command that did not end with status 0 is a contradiction if there is no failed test and no other contradiction
 not-zero : (code : ℕ) → WithStatus code ≢ WithStatus 0 → (code == 0) ≡ false
 not-zero code other = elim (code == 0) as (λ b. (code == 0) ≡ b → b ≡ false) [
   | true ↦ λ is. absurd (other (ap WithStatus (eqb-true code 0 is)))
@@ -105,9 +105,9 @@ fails causes (WithStatus code) other zero = grind (arith, nat_tests, zero, not-z
 fails causes (WithError code words) other zero = grind (arith, nat_tests, zero)
 
 one-if-fails : (r : RunState) (o : Option CommandView) (end : CommandView) → o ≡ Some end → end ≢ WithStatus 0 → r.causes ≡ 0
-    → sum_by weight (option_map_or (λ end. if command_fails r.causes end then Disagrees (unless_cancelled r (CommandFails end)) ∷ [] else []) o []) ≡ 1
+    → sum_by weight (option_map_or (λ end. if command_fails r.causes end then Contradicts (unless_cancelled r (CommandFails end)) ∷ [] else []) o []) ≡ 1
 one-if-fails r None end is other zero = absurd (cc)
-one-if-fails r (Some e) end is other zero = ap (λ (b : Bool). sum_by weight (if b then Disagrees (unless_cancelled r (CommandFails e)) ∷ [] else []))
+one-if-fails r (Some e) end is other zero = ap (λ (b : Bool). sum_by weight (if b then Contradicts (unless_cancelled r (CommandFails e)) ∷ [] else []))
     (fails r.causes e (λ same. other (cc)) zero)
 
 command-cause : (r : RunState) (end : CommandView) → r.command ≡ Some end → end ≢ WithStatus 0 → (reported_run r).causes ≡ 0
@@ -139,11 +139,11 @@ module _ (settings : RunSettings) (files : List (List EventView)) (clean : IsCle
           weighs,
           none,
           clean.none_failed,
-          clean.none_disagree,
+          clean.none_contradict,
           sum_by-append weight known (reports_told r).notes,
           end-parts weight r,
         ),
-        omega (arith, weighs, none, clean.none_failed, clean.none_disagree),
+        omega (arith, weighs, none, clean.none_failed, clean.none_contradict),
       )
 
   pub file-event : (r : RunState) (end : IsFileEndOf settings files r) → r.command ≡ None → 0 < events_in end.file

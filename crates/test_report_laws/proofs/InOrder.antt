@@ -26,7 +26,7 @@ use Rattle.test_report_laws.proofs.Verdicts.{all-causes, early-cause, end-causes
 use Rattle.test_report_laws.proofs.Weights.{all-numbered, has-number, numbered-ready, unnumbered, weight_of}
 use Rattle.test_report_laws.specs.Run.{Agrees, IsClean, IsSound, failed_in, failed_verdicts_of, is_test, not_run_of, passed_in}
 use Rattle.test_report_run.specs.Over.{last_notes, nothing_known}
-use Rattle.test_report_run.specs.Run.{RunSettings, RunState, counts_tests, early_end, ended_at, has_failed, is_cause, is_disagreement, notes_at, open_suite, opened, run_start, settled_at, started_again, step, stray_suite_notes, suite_at, tests_in, told, with_suite_at, without_tests}
+use Rattle.test_report_run.specs.Run.{RunSettings, RunState, counts_tests, early_end, ended_at, has_failed, is_cause, is_contradiction, notes_at, open_suite, opened, run_start, settled_at, started_again, step, stray_suite_notes, suite_at, tests_in, told, with_suite_at, without_tests}
 use Rattle.test_report_run.specs.Said.{numbers_of}
 use Rattle.test_report_laws.specs.Status.{EndsInOrder, IsInOrder, SuccessIsInOrder}
 use Rattle.test_report_run.specs.Suite.{SuiteState, cancelled_by, has_key, with_line}
@@ -34,7 +34,7 @@ use Rattle.test_report_laws.specs.Whole.{IsLineOf, all_notes, notes_of, run_afte
 
 module _ (settings : RunSettings) (files : List (List EventView)) (clean : IsClean (all_notes settings files)) where
   no-cause : count_by is_cause (all_notes settings files) ≡ 0
-  no-cause = omega (arith, causes-of (all_notes settings files), clean.none_failed, clean.none_disagree)
+  no-cause = omega (arith, causes-of (all_notes settings files), clean.none_failed, clean.none_contradict)
 
   numbered : (r : RunState) (before : List (List EventView)) (lines : List EventView) → r ≡ run_after (run_after_files (run_start settings) before) lines
       → weight_of unnumbered r ≡ 0
@@ -71,7 +71,7 @@ module _ (settings : RunSettings) (files : List (List EventView)) (clean : IsCle
   clean-line : (r : RunState) (e : EventView) → IsLineOf settings files r e → IsClean (told (ready r e) e).notes
   clean-line r e line = record {
     none_failed = omega (arith, clean.none_failed, own-by (λ x. cond (is_test (λ t. has_failed t.outcome) x) 1 0) r e line);
-    none_disagree = omega (arith, clean.none_disagree, own-by (λ x. cond (is_disagreement x) 1 0) r e line);
+    none_contradict = omega (arith, clean.none_contradict, own-by (λ x. cond (is_contradiction x) 1 0) r e line);
     all_run = omega (arith, clean.all_run, own-by not_run_of r e line);
   }
 
@@ -105,7 +105,7 @@ module _ (settings : RunSettings) (files : List (List EventView)) (clean : IsCle
       let in' : at < length r.suites = position-in (has_key e.key) r.suites (Some at) is in
       let some : s.number ≢ None = has-number r at (numbered r line.before line.lines line.run_is) in' in
       let sound = All-get_or IsSound r.suites at r.outside in' (suites-sound settings line.before line.lines r line.run_is).1 in
-      let agrees = (last-agrees (cancelled_by r.cancel s) tests some record { retried = sound.retried; passed = sound.passed }).0 now.none_disagree in
+      let agrees = (last-agrees (cancelled_by r.cancel s) tests some record { retried = sound.retried; passed = sound.passed }).0 now.none_contradict in
       let none : failed_of s.stats + failed_in (last_notes (cancelled_by r.cancel s) tests) ≡ 0 = omega (
         arith,
         now.none_failed,
@@ -153,7 +153,7 @@ module _ (settings : RunSettings) (files : List (List EventView)) (clean : IsCle
     last_lines = ends-well;
     stray_lines = λ r e line closed.
         let place = ap (λ (x : RunState). open_suite x e.key) (only-settled_at r (SuiteEnds e)).run_is in
-        not-one (counts_tests e) (sym (stray-shows (ready r (SuiteEnds e)) e (place ∙ closed)) ∙ (clean-line r (SuiteEnds e) line).none_disagree);
+        not-one (counts_tests e) (sym (stray-shows (ready r (SuiteEnds e)) e (place ∙ closed)) ∙ (clean-line r (SuiteEnds e) line).none_contradict);
     one_without_key = λ r count line.
         let e = SuiteStarts None count in
         let place = ap (λ (x : RunState). open_suite x None) (only-settled_at r e).run_is in
@@ -172,7 +172,7 @@ module _ (settings : RunSettings) (files : List (List EventView)) (clean : IsCle
         );
     announced = omega (arith, announced-counted settings files, (totals-count settings files).not_run, clean.all_run);
     cargo = λ r f line plain at never none.
-        absurd (omega (arith, cargo-shows settings files r f line plain at none never, clean.none_failed, clean.none_disagree));
+        absurd (omega (arith, cargo-shows settings files r f line plain at none never, clean.none_failed, clean.none_contradict));
   }
 
 pub success-in-order : SuccessIsInOrder

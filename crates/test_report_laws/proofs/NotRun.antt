@@ -10,7 +10,7 @@ use Rattle.test_report_events.specs.Event.{AllEndEarly, EventView, SuiteEndView,
 use Rattle.test_report_events.specs.declared.event.TestResult.{TestResult}
 use Rattle.test_report_events.specs.declared.event.TestResult.TheVariants.{Ok, Failed, Ignored}
 use Rattle.test_report_events.specs.declared.program.ProgramEnd.{ProgramEnd}
-use Rattle.test_report_run_notes.specs.Note.{Disagrees, DisagreementView, Fails, FlakyEnds, HasNoEnd, IsNotRun, IsSkipped, NoteView, Passes, StrayEnds, StraySuiteEnds, SuiteIs, SuiteNoteView, TestIs, TestNoteView}
+use Rattle.test_report_run_notes.specs.Note.{Contradicts, ContradictionView, Fails, FlakyEnds, HasNoEnd, IsNotRun, IsSkipped, NoteView, Passes, StrayEnds, StraySuiteEnds, SuiteIs, SuiteNoteView, TestIs, TestNoteView}
 use Rattle.test_report_laws.proofs.Books.{IsIn, position-in}
 use Rattle.test_report_laws.proofs.CargoReports.{only-settled_at, ready, reports-none}
 use Rattle.test_report_laws.proofs.EndSums.{early_rest, last_by, of-numbers, sum-crashed}
@@ -24,7 +24,7 @@ use Rattle.test_report_laws.proofs.Weights.{has-number, numbered-end, numbered-l
 use Rattle.test_report_run.specs.Ended.{end_notes, failure_of}
 use Rattle.test_report_laws.specs.Run.{not_run_in, not_run_of}
 use Rattle.test_report_run.specs.Others.{OthersView}
-use Rattle.test_report_run.specs.Over.{EarlyEnd, crash_of, crashed_notes, crashed_of, crashes, early_by, early_disagreements, early_notes, early_state, explained_of, failed_note, failed_notes, flaky_note, flaky_notes, flaky_outcome, initial_of, last_disagreement, last_notes, last_state, lost, nothing_known, number_notes, rest_of, skipped_note, stopped_note, stopped_of}
+use Rattle.test_report_run.specs.Over.{EarlyEnd, crash_of, crashed_notes, crashed_of, crashes, early_by, early_contradictions, early_notes, early_state, explained_of, failed_note, failed_notes, flaky_note, flaky_notes, flaky_outcome, initial_of, last_contradiction, last_notes, last_state, lost, nothing_known, number_notes, rest_of, skipped_note, stopped_note, stopped_of}
 use Rattle.test_report_run.specs.FileEnd.{file_notes}
 use Rattle.test_report_run.specs.Run.{RunSettings, RunState, Step, all_ended_early, counts_tests, early_end, ended_at, ended_early, is_cause, tests_in, notes_at, open_suite, opened, place_of_number, running_ends, running_over, settled_at, started_again, step, stray_ends, stray_over, stray_suite_notes, stray_test, suite_at, suite_place, told, with_suite_at, without_tests}
 use Rattle.test_report_run.specs.Running.{RunningView, is_of, place_of_end, running_at}
@@ -39,9 +39,9 @@ flaky-ran : (failed : Bool) (f : FlakyView) → was_stopped (flaky_outcome faile
 flaky-ran true f = refl
 flaky-ran false f = refl
 
--- a weight of notes, in which those of tests that were not stopped, of ends of flaky tests and of disagreements weigh nothing
+-- a weight of notes, in which those of tests that were not stopped, of ends of flaky tests and of contradictions weigh nothing
 module _ (w : NoteView → ℕ) (test : (t : TestNoteView) → was_stopped t.outcome ≡ false → w (TestIs t) ≡ 0)
-    (flaky-end : (t : TestNoteView) → w (FlakyEnds t) ≡ 0) (disagree : (d : DisagreementView) → w (Disagrees d) ≡ 0) where
+    (flaky-end : (t : TestNoteView) → w (FlakyEnds t) ≡ 0) (contradict : (d : ContradictionView) → w (Contradicts d) ≡ 0) where
   -- of a suite that ends, only its numbers weigh, and its stopped tests, if each of them weighs 1
   of-early : (each : Bool) (others : OthersView) (end : Option ProgramEnd) (s : SuiteState) (crashed stopped : List RunningView)
       → ((t : RunningView) → w (stopped_note s t) ≡ cond each 1 0)
@@ -51,16 +51,16 @@ module _ (w : NoteView → ℕ) (test : (t : TestNoteView) → was_stopped t.out
       let crashes = crashed_notes s (crash_of others end s (length crashed)) crashed in
       let stops = map (stopped_note s) stopped in
       let flaky = flaky_notes s false in
-      let disagreements = early_disagreements s end (length crashed) in
+      let contradictions = early_contradictions s end (length crashed) in
       let numbers = number_notes (early_state s crashed) (early_rest s stopped) in
-      let none : sum_by w disagreements ≡ 0 = grind (arith, disagree) in
+      let none : sum_by w contradictions ≡ 0 = grind (arith, contradict) in
       omega (
         arith,
         none,
-        sum_by-append w crashes (stops ++ (flaky ++ (disagreements ++ numbers))),
-        sum_by-append w stops (flaky ++ (disagreements ++ numbers)),
-        sum_by-append w flaky (disagreements ++ numbers),
-        sum_by-append w disagreements numbers,
+        sum_by-append w crashes (stops ++ (flaky ++ (contradictions ++ numbers))),
+        sum_by-append w stops (flaky ++ (contradictions ++ numbers)),
+        sum_by-append w flaky (contradictions ++ numbers),
+        sum_by-append w contradictions numbers,
         sum-crashed w false s (λ c name. test _ refl) (crash_of others end s (length crashed)) crashed,
         sum-map w (stopped_note s) stopped,
         sum-all (λ t. w (stopped_note s t)) each stop stopped,
@@ -74,16 +74,16 @@ module _ (w : NoteView → ℕ) (test : (t : TestNoteView) → was_stopped t.out
       let skipped = map (skipped_note s) (take e.skipped tests) in
       let failed = failed_notes s HasNoEnd (lost e tests) in
       let flaky = flaky_notes s e.flaky_failed in
-      let disagreements = last_disagreement (last_state s e tests) in
+      let contradictions = last_contradiction (last_state s e tests) in
       let numbers = number_notes (last_state s e tests) (rest_of s e tests) in
-      let none : sum_by w disagreements ≡ 0 = grind (arith, disagree) in
+      let none : sum_by w contradictions ≡ 0 = grind (arith, contradict) in
       omega (
         arith,
         none,
-        sum_by-append w skipped (failed ++ (flaky ++ (disagreements ++ numbers))),
-        sum_by-append w failed (flaky ++ (disagreements ++ numbers)),
-        sum_by-append w flaky (disagreements ++ numbers),
-        sum_by-append w disagreements numbers,
+        sum_by-append w skipped (failed ++ (flaky ++ (contradictions ++ numbers))),
+        sum_by-append w failed (flaky ++ (contradictions ++ numbers)),
+        sum_by-append w flaky (contradictions ++ numbers),
+        sum_by-append w contradictions numbers,
         sum-map w (skipped_note s) (take e.skipped tests),
         sum-none (λ test. w (skipped_note s test)) (λ name. test _ refl) (take e.skipped tests),
         sum-map w (failed_note s HasNoEnd) (lost e tests),
@@ -99,12 +99,12 @@ module _ (w : NoteView → ℕ) (test : (t : TestNoteView) → was_stopped t.out
   of-end s t e Ignored = omega (arith, test (test_of s t (IsSkipped e.message)) refl)
 
   of-stray : (r : RunState) (e : TestEndView) (how : TestResult) → sum_by w (stray_ends r (record e { result = how })).notes ≡ 0
-  of-stray r e Ok = sum-if-none w true (Disagrees (StrayEnds e.name Ok)) (disagree _)
+  of-stray r e Ok = sum-if-none w true (Contradicts (StrayEnds e.name Ok)) (contradict _)
   of-stray r e Failed = omega (
     arith,
-    sum_by-append w (stray_test r (record e { result = Failed })) (Disagrees (StrayEnds e.name Failed) ∷ []),
+    sum_by-append w (stray_test r (record e { result = Failed })) (Contradicts (StrayEnds e.name Failed) ∷ []),
     of-end (named (suite_at r (suite_place r e.name)) e.name) (stray_over r e) e Failed,
-    sum-if-none w true (Disagrees (StrayEnds e.name Failed)) (disagree _),
+    sum-if-none w true (Contradicts (StrayEnds e.name Failed)) (contradict _),
   )
   of-stray r e Ignored = of-end (named (suite_at r (suite_place r e.name)) e.name) (stray_over r e) e Ignored
 
@@ -124,7 +124,7 @@ outside note = 0
 not-outside : (t : TestNoteView) → was_stopped t.outcome ≡ false → outside (TestIs t) ≡ 0
 not-outside t ran = ap (λ (b : Bool). cond (b && is_none t.suite) 1 0) ran
 
--- the two numbers of tests that were not run, and where one of these was stopped outside of a suite, something failed or disagreed
+-- the two numbers of tests that were not run, and where one of these was stopped outside of a suite, there is a failed test or a contradiction
 record Same (notes : List NoteView) : Type 0 where
   same : sum_by named_not_run notes ≡ sum_by not_run_of notes
   known : 0 < sum_by outside notes → 0 < count_by is_cause notes
@@ -142,9 +142,9 @@ same-append a b x y = record {
 same-none : (notes : List NoteView) → sum_by named_not_run notes ≡ 0 → sum_by not_run_of notes ≡ 0 → sum_by outside notes ≡ 0 → Same notes
 same-none notes a b c = record { same = a ∙ sym b; known = λ some. absurd (omega (arith, c, some)) }
 
-same-if : (b : Bool) (d : DisagreementView) → Same (if b then Disagrees d ∷ [] else [])
+same-if : (b : Bool) (d : ContradictionView) → Same (if b then Contradicts d ∷ [] else [])
 same-if b d =
-    same-none _ (sum-if-none named_not_run b (Disagrees d) refl) (sum-if-none not_run_of b (Disagrees d) refl) (sum-if-none outside b (Disagrees d) refl)
+    same-none _ (sum-if-none named_not_run b (Contradicts d) refl) (sum-if-none not_run_of b (Contradicts d) refl) (sum-if-none outside b (Contradicts d) refl)
 
 -- the numbers of a suite that has a name, or of which so many tests were not run
 same-named : (name : Option (List ℕ)) (k n initial : ℕ) (s : SuiteNoteView) → s.not_run ≡ n → (name ≡ None → n ≡ k)
@@ -338,7 +338,7 @@ not-run-named settings files = (all-named settings files).same
 abbrev pub of_suites : NoteView → ℕ
 of_suites note = cond (is_not_run note) (named_not_run note) 0
 
--- if no test failed and no lines disagree, the note of each test that was not run names a suite
+-- if no test failed and there is no contradiction, the note of each test that was not run names a suite
 pub suites-named : (settings : RunSettings) (files : List (List EventView)) → count_by is_cause (all_notes settings files) ≡ 0
     → sum_by of_suites (all_notes settings files) ≡ not_run_in (all_notes settings files)
 suites-named settings files none =

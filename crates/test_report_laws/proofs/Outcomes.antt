@@ -18,7 +18,7 @@ use Rattle.test_report_run_notes.specs.declared.note.RunEnd.{RunEnd}
 use Rattle.test_report_laws.proofs.Counters.{of_suite, of_test, sums-up, with_outcome, fits}
 use Rattle.test_report_laws.proofs.Sums.{sum-none}
 use Rattle.test_report_laws.proofs.Tallies.{counted, failed-total, run-sums}
-use Rattle.test_report_laws.specs.Run.{Counts, IsClean, Means, OutcomeMeans, disagreements_in, failed_in, not_run_in}
+use Rattle.test_report_laws.specs.Run.{Counts, IsClean, Means, OutcomeMeans, contradictions_in, failed_in, not_run_in}
 use Rattle.test_report_run.specs.Run.{RunSettings, run_start, with_note}
 use Rattle.test_report_run.specs.Totals.{ending, no_suites, suite_outcome, with_suite}
 use Rattle.test_report_laws.specs.Whole.{all_notes, run_after_files}
@@ -87,15 +87,15 @@ outcome-fold e (note ∷ notes) none is =
 outcome-of-sums : (settings : RunSettings) (files : List (List EventView)) → IsOf (fold with_note no_suites (all_notes settings files))
 outcome-of-sums settings files = outcome-fold no_suites (all_notes settings files) (no-scripts settings files) refl
 
--- the outcome with disagreements, of which some do not say that the run was cancelled, or all do
-abbrev with_disagreements : Bool → RunOutcome → RunOutcome
-with_disagreements beyond o = if beyond then outcome.Failed step.Test else combined o (outcome.Cancelled step.Test)
+-- the outcome with contradictions, of which some do not say that the run was cancelled, or all do
+abbrev with_contradictions : Bool → RunOutcome → RunOutcome
+with_contradictions beyond o = if beyond then outcome.Failed step.Test else combined o (outcome.Cancelled step.Test)
 
 -- it is one of a higher rank than that of a clean run
 abbrev is_wrong : RunOutcome → Bool
 is_wrong o = nat_lt 1 (outcome_rank o)
 
-wrong-with : (beyond : Bool) (o : RunOutcome) → is_wrong (with_disagreements beyond o) ≡ true
+wrong-with : (beyond : Bool) (o : RunOutcome) → is_wrong (with_contradictions beyond o) ≡ true
 wrong-with true o = refl
 wrong-with false o = elim (nat_le (outcome_rank o) 2) as (λ b. nat_le (outcome_rank o) 2 ≡ b → is_wrong (if b then outcome.Cancelled step.Test else o) ≡ true) [
   | true ↦ λ low. refl
@@ -103,32 +103,32 @@ wrong-with false o = elim (nat_le (outcome_rank o) 2) as (λ b. nat_le (outcome_
 ] refl
 
 -- what an outcome says
-abbrev end_outcome : (beyond disagree failed not_run none : Bool) → RunOutcome
-end_outcome beyond disagree failed not_run none =
-    if disagree then with_disagreements beyond (outcome_by failed not_run none) else outcome_by failed not_run none
+abbrev end_outcome : (beyond contradict failed not_run none : Bool) → RunOutcome
+end_outcome beyond contradict failed not_run none =
+    if contradict then with_contradictions beyond (outcome_by failed not_run none) else outcome_by failed not_run none
 
 -- the outcome by the numbers of notes: another one where something is wrong
-other : (notes : List NoteView) (o : RunOutcome) → 0 < failed_in notes + disagreements_in notes + not_run_in notes → o ≢ outcome.Success
+other : (notes : List NoteView) (o : RunOutcome) → 0 < failed_in notes + contradictions_in notes + not_run_in notes → o ≢ outcome.Success
     → o ≢ outcome.NoTestsRun → Means notes o
 other notes o some a b = record {
-  success = ((λ h. absurd (a h)), (λ h. absurd (let c = h.0 in omega (arith, c.none_failed, c.none_disagree, c.all_run))));
-  no_tests = ((λ h. absurd (b h)), (λ h. absurd (let c = h.0 in omega (arith, c.none_failed, c.none_disagree, c.all_run))));
+  success = ((λ h. absurd (a h)), (λ h. absurd (let c = h.0 in omega (arith, c.none_failed, c.none_contradict, c.all_run))));
+  no_tests = ((λ h. absurd (b h)), (λ h. absurd (let c = h.0 in omega (arith, c.none_failed, c.none_contradict, c.all_run))));
   others = λ _ _. some;
 }
 
 means : (notes : List NoteView) (e : RunEnd) (b d f m z : Bool) → Counts notes e → failed_tests e.stats ≡ failed_in notes
-    → nat_lt 0 (disagreements_in notes) ≡ d → nat_lt 0 (failed_tests e.stats) ≡ f → nat_lt 0 e.not_run ≡ m → (e.stats.finished_count == 0) ≡ z
+    → nat_lt 0 (contradictions_in notes) ≡ d → nat_lt 0 (failed_tests e.stats) ≡ f → nat_lt 0 e.not_run ≡ m → (e.stats.finished_count == 0) ≡ z
     → Means notes (end_outcome b d f m z)
 means notes e b true f m z sums failed hd hf hm hz =
     let wrong = wrong-with b (outcome_by f m z) in
-    other notes _ (omega (arith, ltb-true 0 (disagreements_in notes) hd)) (λ h. cc) (λ h. cc)
+    other notes _ (omega (arith, ltb-true 0 (contradictions_in notes) hd)) (λ h. cc) (λ h. cc)
 means notes e b false true m z sums failed hd hf hm hz =
     other notes _ (omega (arith, ltb-true 0 (failed_tests e.stats) hf)) (λ e. cc) (λ e. cc)
 means notes e b false false true z sums failed hd hf hm hz = other notes _ (omega (arith, ltb-true 0 e.not_run hm)) (λ e. cc) (λ e. cc)
 means notes e b false false false z sums failed hd hf hm hz =
     let clean : IsClean notes = record {
       none_failed = omega (arith, ltb-false 0 (failed_tests e.stats) hf);
-      none_disagree = omega (arith, ltb-false 0 (disagreements_in notes) hd);
+      none_contradict = omega (arith, ltb-false 0 (contradictions_in notes) hd);
       all_run = omega (arith, ltb-false 0 e.not_run hm);
     } in
     by-tests-run z hz clean
@@ -145,17 +145,17 @@ means notes e b false false false z sums failed hd hf hm hz =
       others = λ a b. absurd (a refl);
     }
 
-ending-outcome : (e : RunEnd) (disagreements cancels : ℕ) → (ending e disagreements cancels).outcome
-    ≡ (if nat_lt 0 disagreements then with_disagreements (nat_lt cancels disagreements) e.outcome else e.outcome)
-ending-outcome e disagreements cancels = by-tests (nat_lt cancels disagreements) (nat_lt 0 disagreements) refl refl
+ending-outcome : (e : RunEnd) (contradictions cancels : ℕ) → (ending e contradictions cancels).outcome
+    ≡ (if nat_lt 0 contradictions then with_contradictions (nat_lt cancels contradictions) e.outcome else e.outcome)
+ending-outcome e contradictions cancels = by-tests (nat_lt cancels contradictions) (nat_lt 0 contradictions) refl refl
   where
-    by-tests : (beyond disagree : Bool) → nat_lt cancels disagreements ≡ beyond → nat_lt 0 disagreements ≡ disagree
+    by-tests : (beyond contradict : Bool) → nat_lt cancels contradictions ≡ beyond → nat_lt 0 contradictions ≡ contradict
         → (if beyond then record e { outcome = outcome.Failed step.Test }
-        else if disagree then record e { outcome = combined e.outcome (outcome.Cancelled step.Test) }
+        else if contradict then record e { outcome = combined e.outcome (outcome.Cancelled step.Test) }
         else e).outcome
-        ≡ (if disagree then with_disagreements beyond e.outcome else e.outcome)
+        ≡ (if contradict then with_contradictions beyond e.outcome else e.outcome)
     by-tests true true more some = refl
-    by-tests true false more none = absurd (omega (arith, ltb-true cancels disagreements more, ltb-false 0 disagreements none))
+    by-tests true false more none = absurd (omega (arith, ltb-true cancels contradictions more, ltb-false 0 contradictions none))
     by-tests false true few some = refl
     by-tests false false few none = refl
 
@@ -164,8 +164,8 @@ outcome-means settings files =
     let notes = all_notes settings files in
     let r = run_after_files (run_start settings) files in
     let e = fold with_note no_suites notes in
-    let beyond = nat_lt r.cancels r.disagreements in
-    let is = ending-outcome r.totals r.disagreements r.cancels
-    ∙ (ap (λ s. if nat_lt 0 s.1 then with_disagreements beyond s.0.outcome else s.0.outcome) (run-sums settings files)
-    ∙ ap (λ o. if nat_lt 0 (disagreements_in notes) then with_disagreements beyond o else o) (outcome-of-sums settings files)) in
+    let beyond = nat_lt r.cancels r.contradictions in
+    let is = ending-outcome r.totals r.contradictions r.cancels
+    ∙ (ap (λ s. if nat_lt 0 s.1 then with_contradictions beyond s.0.outcome else s.0.outcome) (run-sums settings files)
+    ∙ ap (λ o. if nat_lt 0 (contradictions_in notes) then with_contradictions beyond o else o) (outcome-of-sums settings files)) in
     subst (Means notes) (sym is) (means notes e beyond _ _ _ _ (counted settings files e.outcome) (failed-total settings files) refl refl refl refl)

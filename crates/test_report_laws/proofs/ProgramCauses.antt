@@ -5,11 +5,11 @@ use Rattle.std.specs.List.{list_any}
 use Rattle.std.specs.Ordering.{int_eq}
 use Rattle.std.specs.Str.Lines.{lines}
 use Rattle.std.proofs.lemmas.List.Sums.{sum_by-append, sum_by-cons}
-use Rattle.test_report_events.specs.Event.{AllEndEarly, EndsUnexplained, EndsUnstarted, EventView, ProgramDisagrees, ProgramFaultView, RunsNoTest}
+use Rattle.test_report_events.specs.Event.{AllEndEarly, EndsUnexplained, EndsUnstarted, EventView, ProgramContradicts, ProgramFaultView, RunsNoTest}
 use Rattle.test_report_events.specs.Program.{ProgramLineView, ProgramStartView}
 use Rattle.test_report_events.specs.declared.program.ProgramEnd.{ProgramEnd}
 use Rattle.test_report_events.specs.declared.program.ProgramEnd.TheVariants.{Signal, Status}
-use Rattle.test_report_run_notes.specs.Note.{Disagrees, Fails, NoteView, OfProgram, OutcomeView, TestIs}
+use Rattle.test_report_run_notes.specs.Note.{Contradicts, Fails, NoteView, OfProgram, OutcomeView, TestIs}
 use Rattle.test_report_run.specs.Run.{has_failed, is_cause, notes_at, unless_cancelled}
 use Rattle.test_report_programs.specs.Lines.{OverView, ProgramView, ProgramsStep, all_told, at_line, ended, events_taken, explains, fault_of, is_break, is_crash, is_start, is_zero, known_end, may_be_cancelled, new_program, printed, program_over, same, settled, settled_if, told, told_if, told_program, with_notes}
 use Rattle.test_report_laws.proofs.ProgramSteps.{either-keeps, line-keeps, settled-keeps, with_over, with_program}
@@ -54,7 +54,7 @@ break-outcome t h = absurd (cc)
 
 break-cause : (n : NoteView) → is_break n ≡ true → is_cause n ≡ true
 break-cause (TestIs t) h = ap (λ b. b || false) (break-outcome t.outcome h)
-break-cause (Disagrees d) h = refl
+break-cause (Contradicts d) h = refl
 break-cause n h = absurd (cc)
 
 -- an event keeps it known
@@ -120,16 +120,16 @@ lines-keep past s events line k =
     known-line past counts line (all_told ready (events_taken counts events))
     (known-all past ready (events_taken counts events) (known-either past due (settled begun) begun (known-settled past begun first) first))
 
--- a fault is a disagreement
-fault-counts : (t : ProgramsStep) (fault : ProgramFaultView) → 0 < causes_in (told t (ProgramDisagrees fault)).notes
+-- a fault is a contradiction
+fault-counts : (t : ProgramsStep) (fault : ProgramFaultView) → 0 < causes_in (told t (ProgramContradicts fault)).notes
 unfolding told
 fault-counts t fault =
-    let d = Disagrees (unless_cancelled t.state.run (OfProgram fault)) in
+    let d = Contradicts (unless_cancelled t.state.run (OfProgram fault)) in
     omega (arith, sum_by-append weight t.notes (d ∷ []), sum_by-cons weight d [])
 
 pub unstarted-shows : UnstartedProgramShows
 unstarted-shows t o none bad =
-    let stray = told t (ProgramDisagrees (EndsUnstarted o.end)) in
+    let stray = told t (ProgramContradicts (EndsUnstarted o.end)) in
     let is : ended o t ≡ stray =
     ap (λ b. cond b (cond (is_zero o.end) t stray) (cond (may_be_cancelled o.end) (with_over (Some o) t) (program_over o t)))
     (ap (λ (p : Option ProgramView). is_none p) none)
@@ -141,14 +141,14 @@ explained : (end : ProgramEnd) (p : ProgramView) → explains p end ≡ true →
 explained (Status code) p h = some-true (int_eq code (pos 101)) p.failed p.broke h
 explained (Signal number) p h = ap (λ b. p.failed || b) h ∙ last-true p.failed
 
-fault-after : (past : List NoteView) (t : ProgramsStep) (fault : ProgramFaultView) → 0 < causes_in (past ++ (told t (ProgramDisagrees fault)).notes)
+fault-after : (past : List NoteView) (t : ProgramsStep) (fault : ProgramFaultView) → 0 < causes_in (past ++ (told t (ProgramContradicts fault)).notes)
 fault-after past t fault =
-    let notes = (told t (ProgramDisagrees fault)).notes in
+    let notes = (told t (ProgramContradicts fault)).notes in
     omega (arith, sum_by-append weight past notes, fault-counts t fault)
 
 judged-shows : (past : List NoteView) (zero ran explains : Bool) (x y : ProgramFaultView) (t : ProgramsStep) → (zero && ran) ≡ false
     → (explains ≡ true → 0 < causes_in (past ++ t.notes))
-    → 0 < causes_in (past ++ (told_if t (option_map ProgramDisagrees (cond zero (cond ran None (Some x)) (cond explains None (Some y))))).notes)
+    → 0 < causes_in (past ++ (told_if t (option_map ProgramContradicts (cond zero (cond ran None (Some x)) (cond explains None (Some y))))).notes)
 judged-shows past true true explains x y t bad known = absurd (cc)
 judged-shows past true false explains x y t bad known = fault-after past t x
 judged-shows past false ran true x y t bad known = known refl
@@ -182,10 +182,10 @@ runs-prints ran may t (x ∷ texts) r = runs-prints ran may (told t (printed x))
 
 last-shows : (past : List NoteView) (end : ProgramEnd) (last : ProgramsStep) (program : Option ProgramView) (p : ProgramView)
     → IsKnown (past ++ last.notes) program → program ≡ Some p → ended_well end p ≡ false
-    → 0 < causes_in (past ++ (told_if last (option_map ProgramDisagrees (option_and_then (fault_of end) program))).notes)
+    → 0 < causes_in (past ++ (told_if last (option_map ProgramContradicts (option_and_then (fault_of end) program))).notes)
 last-shows past end last program p known is bad =
     let at : IsKnown (past ++ last.notes) (Some p) = subst (λ (o : Option ProgramView). IsKnown (past ++ last.notes) o) is known in
-    subst (λ (o : Option ProgramView). 0 < causes_in (past ++ (told_if last (option_map ProgramDisagrees (option_and_then (fault_of end) o))).notes)) (sym is)
+    subst (λ (o : Option ProgramView). 0 < causes_in (past ++ (told_if last (option_map ProgramContradicts (option_and_then (fault_of end) o))).notes)) (sym is)
     (judged-shows past (is_zero end) (p.ran || p.may_be_empty) (explains p end) (RunsNoTest p.name) (EndsUnexplained p.name end) last bad
     (λ h. at (explained end p h)))
 

@@ -2,7 +2,7 @@
 use Rattle.std.proofs.Common.{◌≡◌, ◌∙◌, ℕ, List, [], ◌∷◌, ◌++◌, ◌+◌, Bool, true, false, Option, None, Some, ap, append-nil, append_assoc, arith, cond, refl, sym}
 use Rattle.std.specs.Prelude.{◌&&◌, filter, is_none, is_some, unwrap_or}
 use Rattle.std.proofs.lemmas.List.Sums.{sum_by-append, sum_by-cons}
-use Rattle.test_report_events.specs.Event.{CommandOver, CommandView, EventView, IsCutOff, ProgramDisagrees, TestEnds}
+use Rattle.test_report_events.specs.Event.{CommandOver, CommandView, EventView, IsCutOff, ProgramContradicts, TestEnds}
 use Rattle.test_report_events.specs.Program.{ProgramLineView}
 use Rattle.test_report_run_notes.specs.Note.{NoteView}
 use Rattle.test_report_run.specs.FileEnd.{after_file, file_notes, with_command}
@@ -120,10 +120,10 @@ pub closes-are : ClosesAreEvents
 closes-are s =
     let r = s.run in
     let t = program_lost (settled (same s)) in
-    let cut = told t (ProgramDisagrees IsCutOff) in
+    let cut = told t (ProgramContradicts IsCutOff) in
     let last : Leads r 0 t = leads-lost r 0 (settled (same s)) (leads-settled r 0 (same s) (leads-none s)) in
     leads-either r 0 (unwrap_or s.counts false) (cond t.state.is_done t cut) (same s)
-    (leads-either r 0 t.state.is_done t cut last (leads-quiet r 0 t (ProgramDisagrees IsCutOff) refl last)) (leads-none s)
+    (leads-either r 0 t.state.is_done t cut last (leads-quiet r 0 t (ProgramContradicts IsCutOff) refl last)) (leads-none s)
 
 -- the command ends, if it is known how
 with-end : (r run : RunState) (notes : List NoteView) (command : Option CommandView) → AreEvents r run notes 0

@@ -3,7 +3,7 @@ use Rattle.std.proofs.Common.{◌≡◌, ◌∙◌, ℕ, List, [], ◌∷◌, �
 use Rattle.std.specs.Prelude.{◌&&◌, ◌||◌, is_none, is_some, unwrap_or}
 use Rattle.std.proofs.lemmas.List.Sums.{sum_by-append}
 use Rattle.run_events_results.specs.declared.results.CancelReason.{CancelReason}
-use Rattle.test_report_events.specs.Event.{Cancels, CommandView, EndsUnstarted, EventView, IsCutOff, ProgramDisagrees}
+use Rattle.test_report_events.specs.Event.{Cancels, CommandView, EndsUnstarted, EventView, IsCutOff, ProgramContradicts}
 use Rattle.test_report_events.specs.Program.{CommandBegins, CommandEnds, CommandIsCancelled, ProgramEnds, ProgramLineView, ProgramStartView, ProgramStarts}
 use Rattle.test_report_events.specs.declared.program.ProgramEnd.{ProgramEnd}
 use Rattle.test_report_events.specs.declared.program.ProgramEnd.TheVariants.{Signal, Status}
@@ -121,12 +121,12 @@ waits-line past s events line w =
 waits-closed : (past : List NoteView) (s : ProgramsState) → Waits past (same s) → Shows past (closed s)
 waits-closed past s w =
     let t = program_lost (settled (same s)) in
-    let cut = told t (ProgramDisagrees IsCutOff) in
+    let cut = told t (ProgramContradicts IsCutOff) in
     let last : Shows past t = shows-lost past (settled (same s)) (waits-settled past (same s) w) in
     let is : unwrap_or s.counts false ≡ true = ap (λ (c : Option Bool). unwrap_or c false) w.counts in
     subst (λ (b : Bool). Shows past (cond b (cond t.state.is_done t cut) (same s))) (sym is)
     (either-keeps (Shows past) (λ t e q. shows-told past t e) (λ t l. l) (λ t p l. l) (λ t o l. l) (λ t l. l) t.state.is_done t cut last
-    (shows-told past t (ProgramDisagrees IsCutOff) last))
+    (shows-told past t (ProgramContradicts IsCutOff) last))
 
 -- a cause is known, or a program waits
 abbrev Due : List NoteView → ProgramsState → Type 0
@@ -196,7 +196,7 @@ ended-due past o t None is counts known bad =
     let u = ended o t in
     inl (omega (arith, sum_by-append weight past u.notes, unstarted-shows t o is bad))
 ended-due past o t (Some p) is counts known bad =
-    let stray = cond (is_zero o.end) t (told t (ProgramDisagrees (EndsUnstarted o.end))) in
+    let stray = cond (is_zero o.end) t (told t (ProgramContradicts (EndsUnstarted o.end))) in
     let put = with_over (Some o) t in
     let Goal = λ (u : ProgramsStep). Due (past ++ u.notes) u.state in
     let at : Goal (cond (may_be_cancelled o.end) put (program_over o t)) = by-cancel past o p t (may_be_cancelled o.end) is counts known bad in
@@ -238,7 +238,7 @@ none-and false ran h = refl
 empty-shows : (past : List NoteView) (o : OverView) (p : ProgramView) (t : ProgramsStep) → Known past t → t.state.program ≡ Some p → t.state.over ≡ None
     → (p.ran || p.may_be_empty) ≡ false → may_be_cancelled o.end ≡ false → Shows past (ended o (settled t))
 empty-shows past o p t known runs settles empty now =
-    let stray = cond (is_zero o.end) t (told t (ProgramDisagrees (EndsUnstarted o.end))) in
+    let stray = cond (is_zero o.end) t (told t (ProgramContradicts (EndsUnstarted o.end))) in
     let put = with_over (Some o) t in
     let over : Shows past (program_over o t) =
     program-shows-after past t o p known runs (none-and (is_zero o.end) (p.ran || p.may_be_empty) empty) in

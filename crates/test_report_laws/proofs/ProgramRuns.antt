@@ -112,7 +112,7 @@ unclean : (settings : RunSettings) (files : List (List EventView)) (notes : List
     → IsClean (all_notes settings files) → ⊥
 unclean settings files notes is some clean =
     let more : 0 < causes_in (all_notes settings files) = subst (λ (ns : List NoteView). 0 < causes_in ns) is some in
-    omega (arith, clean.none_failed, clean.none_disagree, causes-of (all_notes settings files))
+    omega (arith, clean.none_failed, clean.none_contradict, causes-of (all_notes settings files))
 
 pub end-fails : FailedEndFails
 end-fails settings before after first rest end stderr command counts bad =

@@ -3,7 +3,7 @@ use Rattle.std.proofs.Common.{◌≡◌, ℕ, List, [], ◌∷◌, Bool, true, f
 use Rattle.std.specs.Prelude.{is_none, is_some}
 use Rattle.std.specs.Str.Lines.{lines}
 use Rattle.run_events_results.specs.declared.results.CancelReason.{CancelReason}
-use Rattle.test_report_events.specs.Event.{AllEndEarly, Cancels, CommandOver, EndsUnstarted, EventView, HeadingLine, ProgramDisagrees, ProgramFaultView}
+use Rattle.test_report_events.specs.Event.{AllEndEarly, Cancels, CommandOver, EndsUnstarted, EventView, HeadingLine, ProgramContradicts, ProgramFaultView}
 use Rattle.test_report_events.specs.Program.{CommandBegins, CommandEnds, CommandIsCancelled, ProgramEnds, ProgramLineView, ProgramStartView, ProgramStarts}
 use Rattle.test_report_programs.specs.Lines.{OverView, ProgramView, ProgramsStep, all_told, command_of, command_over, done, ended, ends_again, fault_of, is_zero, known_end, lost_fault, may_be_cancelled, new_program, printed, program_lost, program_over, program_told, settled, started, told, told_if, told_program, unknown_end, without_program}
 use Rattle.test_report_events.specs.declared.program.ProgramEnd.{ProgramEnd}
@@ -33,9 +33,9 @@ module _ (P : ProgramsStep → Type 0)
   either-keeps true x y l m = l
   either-keeps false x y l m = m
 
-  fault-keeps : (fault : Option ProgramFaultView) (t : ProgramsStep) → P t → P (told_if t (option_map ProgramDisagrees fault))
+  fault-keeps : (fault : Option ProgramFaultView) (t : ProgramsStep) → P t → P (told_if t (option_map ProgramContradicts fault))
   fault-keeps None t l = l
-  fault-keeps (Some fault) t l = quiet t (ProgramDisagrees fault) refl l
+  fault-keeps (Some fault) t l = quiet t (ProgramContradicts fault) refl l
 
   cancel-keeps : (reason : Option CancelReason) (t : ProgramsStep) → P t → P (told_if t (option_map Cancels reason))
   cancel-keeps None t l = l
@@ -50,13 +50,13 @@ module _ (P : ProgramsStep → Type 0)
   over-keeps o t l =
       let last = told (all_told t (map printed (lines o.stderr))) (AllEndEarly (known_end o)) in
       let fault = option_and_then (fault_of o.end) last.state.program in
-      stops (told_if last (option_map ProgramDisagrees fault)) (fault-keeps fault last (ends-keep o t l))
+      stops (told_if last (option_map ProgramContradicts fault)) (fault-keeps fault last (ends-keep o t l))
 
   pub lost-keeps : (t : ProgramsStep) → P t → P (program_lost t)
   lost-keeps t l =
       let last = told t (AllEndEarly unknown_end) in
       let fault = option_and_then lost_fault last.state.program in
-      let all = told_if last (option_map ProgramDisagrees fault) in
+      let all = told_if last (option_map ProgramContradicts fault) in
       either-keeps (is_some t.state.program) (without_program all) t
       (stops all (fault-keeps fault last (quiet t (AllEndEarly unknown_end) refl l))) l
 
@@ -69,10 +69,10 @@ module _ (P : ProgramsStep → Type 0)
 
   pub ended-keeps : (o : OverView) (t : ProgramsStep) → P t → P (ended o t)
   ended-keeps o t l =
-      let stray = told t (ProgramDisagrees (EndsUnstarted o.end)) in
+      let stray = told t (ProgramContradicts (EndsUnstarted o.end)) in
       let put = with_over (Some o) t in
       either-keeps (is_none t.state.program) (cond (is_zero o.end) t stray) (cond (may_be_cancelled o.end) put (program_over o t))
-      (either-keeps (is_zero o.end) t stray l (quiet t (ProgramDisagrees (EndsUnstarted o.end)) refl l))
+      (either-keeps (is_zero o.end) t stray l (quiet t (ProgramContradicts (EndsUnstarted o.end)) refl l))
       (either-keeps (may_be_cancelled o.end) put (program_over o t) (puts t (Some o) l) (over-keeps o t l))
 
   pub started-keeps : (p : ProgramStartView) (t : ProgramsStep) → P t → P (started p t)

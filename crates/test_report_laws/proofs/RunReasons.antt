@@ -7,12 +7,12 @@ use Rattle.std.proofs.lemmas.List.Elements.{Contains-append_right}
 use Rattle.std.proofs.lemmas.List.Sums.{sum_by-cons}
 use Rattle.run_events_stats.specs.declared.outcome.run_outcome.RunOutcome.{RunOutcome}
 use Rattle.run_events_stats.specs.declared.outcome.run_outcome.RunOutcome.TheVariants as outcome
-use Rattle.test_report_run_notes.specs.Note.{Disagrees, FlakyEnds, IsNotRun, NoteView, SuiteIs, TestIs}
+use Rattle.test_report_run_notes.specs.Note.{Contradicts, FlakyEnds, IsNotRun, NoteView, SuiteIs, TestIs}
 use Rattle.test_report_laws.proofs.RunCauses.{causes-of, weight}
 use Rattle.test_report_laws.proofs.NotRun.{of_suites, suites-named}
 use Rattle.test_report_laws.proofs.Outcomes.{outcome-means}
 use Rattle.test_report_laws.proofs.Sums.{sum-both}
-use Rattle.test_report_laws.specs.Run.{Means, disagreements_in, failed_in, not_run_in, passed_in}
+use Rattle.test_report_laws.specs.Run.{Means, contradictions_in, failed_in, not_run_in, passed_in}
 use Rattle.test_report_run.specs.Run.{is_cause}
 use Rattle.test_report_laws.specs.Status.{FailureHasReason, is_reason}
 use Rattle.test_report_laws.specs.Whole.{all_notes, whole_end}
@@ -34,7 +34,7 @@ reason note = weight note + of_suites note
 is-reason : (note : NoteView) → 0 < reason note → IsTrue (is_reason note)
 is-reason (TestIs t) some = grind arith
 is-reason (FlakyEnds t) some = absurd (omega arith)
-is-reason (Disagrees d) some = refl
+is-reason (Contradicts d) some = refl
 is-reason (IsNotRun suite n of) some = refl
 is-reason (SuiteIs s) some = absurd (omega arith)
 
@@ -42,7 +42,7 @@ reason-in : (notes : List NoteView) → 0 < sum_by reason notes → (note : Note
 reason-in notes some = let found = some-in reason notes some in (found.0, found.1, is-reason found.0 found.2)
 
 some-reason : (notes : List NoteView) → (count_by is_cause notes ≡ 0 → sum_by of_suites notes ≡ not_run_in notes)
-    → 0 < failed_in notes + disagreements_in notes + not_run_in notes → 0 < sum_by reason notes
+    → 0 < failed_in notes + contradictions_in notes + not_run_in notes → 0 < sum_by reason notes
 some-reason notes named some =
     let parts = sum-both reason weight of_suites (λ x. refl) notes in
     elim (cases_lt 0 (count_by is_cause notes)) [

@@ -1,4 +1,4 @@
--- What becomes known where lines disagree.
+-- What becomes known where lines contradict each other.
 use Rattle.std.proofs.Common.{◌≡◌, ◌≢◌, ◌∙◌, ℕ, List, [], ◌∷◌, ◌+◌, ◌<◌, Bool, true, false, cond, Option, Some, None, refl, arith, length, subst, sym, take}
 use Rattle.std.specs.List.{sum_by}
 use Rattle.std.specs.Option.{option_map_or}
@@ -7,7 +7,7 @@ use Rattle.std.proofs.lemmas.Bool.Decides.{nat_tests}
 use Rattle.std.proofs.lemmas.Bool.{or_from, or_parts}
 use Rattle.test_report_events.specs.Event.{SuiteEndView}
 use Rattle.test_report_events.specs.declared.program.ProgramEnd.{ProgramEnd}
-use Rattle.test_report_run_notes.specs.Note.{Disagrees, HasNoEnd, NoteView, StraySuiteEnds, failed_of}
+use Rattle.test_report_run_notes.specs.Note.{Contradicts, HasNoEnd, NoteView, StraySuiteEnds, failed_of}
 use Rattle.test_report_run_notes.specs.declared.note.SaidNumbers.{SaidNumbers}
 use Rattle.test_report_laws.proofs.Counters.{after-last, of_test}
 use Rattle.test_report_laws.proofs.EndSums as ends
@@ -16,27 +16,27 @@ use Rattle.test_report_laws.proofs.Sums.{sum-none}
 use Rattle.test_report_laws.proofs.Tallies.{count-of, crashed_weight, finished-counts, finished-of, finished_weight, passed-counts, passed_weight}
 use Rattle.test_report_run.specs.Running.{RunningView}
 use Rattle.test_report_run.specs.LastLine.{is_contradicted}
-use Rattle.test_report_laws.specs.Run.{Agrees, EarlyEndShows, LastLineAgrees, StrayEndShows, crashed_in, disagreements_in, failed_in, fails_by, has_passed, is_crash, passed_in}
+use Rattle.test_report_laws.specs.Run.{Agrees, EarlyEndShows, LastLineAgrees, StrayEndShows, crashed_in, contradictions_in, failed_in, fails_by, has_passed, is_crash, passed_in}
 use Rattle.test_report_run.specs.Others.{OthersView}
-use Rattle.test_report_run.specs.Over.{crash_of, crashed_of, early_by, early_disagreements, explained_of, failed_note, flaky_note, last_disagreement, last_state, lost, skipped_note, stopped_note, stopped_of}
-use Rattle.test_report_run.specs.Run.{RunState, counts_tests, ended_at, is_disagreement, open_suite, step, stray_suite_notes}
+use Rattle.test_report_run.specs.Over.{crash_of, crashed_of, early_by, early_contradictions, explained_of, failed_note, flaky_note, last_contradiction, last_state, lost, skipped_note, stopped_note, stopped_of}
+use Rattle.test_report_run.specs.Run.{RunState, counts_tests, ended_at, is_contradiction, open_suite, step, stray_suite_notes}
 use Rattle.test_report_run.specs.Said.{numbers_of}
 use Rattle.test_report_run.specs.Suite.{SuiteState}
 use Rattle.test_report_laws.proofs.Types.{Explanation}
 
 abbrev weight : NoteView → ℕ
-weight note = cond (is_disagreement note) 1 0
+weight note = cond (is_contradiction note) 1 0
 
 pub one-if : (b : Bool) (note : NoteView) → weight note ≡ 1 → sum_by weight (if b then note ∷ [] else []) ≡ cond b 1 0
 one-if b note h = grind (arith, h)
 
--- the disagreement of a suite that has a number
-one-disagreement : (s : SuiteState) → s.number ≢ None
-    → sum_by weight (last_disagreement s) ≡ cond (is_contradicted (numbers_of s.said) s.stats.passed (failed_of s.stats)) 1 0
-one-disagreement s some = grind (arith, nat_tests)
+-- the contradiction of a suite that has a number
+one-contradiction : (s : SuiteState) → s.number ≢ None
+    → sum_by weight (last_contradiction s) ≡ cond (is_contradicted (numbers_of s.said) s.stats.passed (failed_of s.stats)) 1 0
+one-contradiction s some = grind (arith, nat_tests)
 
 of-last : (s : SuiteState) (e : Explanation) (tests : List RunningView) → s.number ≢ None
-    → disagreements_in (last_by s e tests)
+    → contradictions_in (last_by s e tests)
     ≡ cond (is_contradicted (numbers_of s.said) (last_state s e tests).stats.passed (failed_of (last_state s e tests).stats)) 1 0
 of-last s e tests some = omega (
   arith,
@@ -44,7 +44,7 @@ of-last s e tests some = omega (
   sum-none (λ n. weight (failed_note s HasNoEnd n)) (λ n. refl) (lost e tests),
   sum-none (λ f. weight (flaky_note s e.flaky_failed f)) (λ f. grind arith) s.flaky,
   sum-none (λ n. weight (skipped_note s n)) (λ n. refl) (take e.skipped tests),
-  one-disagreement (last_state s e tests) some,
+  one-contradiction (last_state s e tests) some,
 )
 
 -- a last line agrees with the tests where it does not contradict them
@@ -95,9 +95,9 @@ last-agrees s tests some sound =
           (subst (Agrees said t.stats.passed) (sym failed) (subst (λ p. Agrees said p (failed_of s.stats + failed_in notes)) (sym passed) h)))),
     )
 
--- the disagreements of a suite that ends early
+-- the contradictions of a suite that ends early
 of-early : (others : OthersView) (end : Option ProgramEnd) (s : SuiteState) (crashed stopped : List RunningView)
-    → disagreements_in (early_by others end s crashed stopped) ≡ sum_by weight (early_disagreements s end (length crashed))
+    → contradictions_in (early_by others end s crashed stopped) ≡ sum_by weight (early_contradictions s end (length crashed))
 of-early others end s crashed stopped = omega (
   arith,
   ends.of-early-all weight (λ suite n of. refl) others end s crashed stopped,
@@ -114,12 +114,12 @@ crashes others end s crashed stopped = omega (
   ends.by-early (of_test crashed_weight) (λ d. refl) (λ suite n of. refl) true others end s crashed stopped (λ c name. refl) (λ name. refl) (λ f. refl),
 )
 
--- no test crashed: the end of a suite with a number disagrees, and tests outside of a suite do
-shows : (s : SuiteState) (end : Option ProgramEnd) → (s.number ≡ None → 0 < s.started) → sum_by weight (early_disagreements s end 0) ≡ 1
+-- no test crashed: the end of a suite with a number is a contradiction, and so are tests outside of a suite
+shows : (s : SuiteState) (end : Option ProgramEnd) → (s.number ≡ None → 0 < s.started) → sum_by weight (early_contradictions s end 0) ≡ 1
 shows s end some = grind (arith, nat_tests)
 
 by-crashed : (others : OthersView) (end : Option ProgramEnd) (s : SuiteState) (crashed stopped : List RunningView) → (s.number ≡ None → 0 < s.started)
-    → 0 < crashed_in (early_by others end s crashed stopped) + disagreements_in (early_by others end s crashed stopped)
+    → 0 < crashed_in (early_by others end s crashed stopped) + contradictions_in (early_by others end s crashed stopped)
 by-crashed others end s [] stopped some = omega (arith, of-early others end s [] stopped, shows s end some)
 by-crashed others end s (test ∷ crashed) stopped some = omega (arith, crashes others end s (test ∷ crashed) stopped)
 
@@ -128,8 +128,8 @@ early-shows others how s tests some = by-crashed others how.end s (crashed_of s 
 
 -- a last line of a suite that is not open
 pub stray-one : (r : RunState) (e : SuiteEndView) (at : Option ℕ) → at ≡ None
-    → disagreements_in (option_map_or (ended_at r e) at (step r (stray_suite_notes e))).notes ≡ (if counts_tests e then 1 else 0)
-stray-one r e None h = one-if (counts_tests e) (Disagrees (StraySuiteEnds e.key e.failed_verdict)) refl
+    → contradictions_in (option_map_or (ended_at r e) at (step r (stray_suite_notes e))).notes ≡ (if counts_tests e then 1 else 0)
+stray-one r e None h = one-if (counts_tests e) (Contradicts (StraySuiteEnds e.key e.failed_verdict)) refl
 stray-one r e (Some at) h = absurd (cc)
 
 pub stray-shows : StrayEndShows

@@ -139,8 +139,8 @@ end-crash s t order e Ignored = refl
 crashed-sums : (settings : RunSettings) (files : List (List EventView))
     → HoldsAll 0 (of_test crashed_weight) crashed_said (all_notes settings files) (run_after_files (run_start settings) files)
 crashed-sums = holds-whole {h = λ k. k.crashed} {Fine = λ k. Unit {0}} record {
-  w_disagree = λ d. refl;
-  v_disagree = λ d. refl;
+  w_contradict = λ d. refl;
+  v_contradict = λ d. refl;
   empty = refl;
   fine_empty = tt;
   of_end = λ s t order e f. (end-crash s t order e e.result, tt);
@@ -179,8 +179,8 @@ skipped-last s e tests =
 skipped-sums : (settings : RunSettings) (files : List (List EventView))
     → HoldsAll 1 (of_test skipped_weight) skipped_said (all_notes settings files) (run_after_files (run_start settings) files)
 skipped-sums = holds-whole {h = λ k. k.skipped} {Fine = λ k. Unit {0}} record {
-  w_disagree = λ d. refl;
-  v_disagree = λ d. refl;
+  w_contradict = λ d. refl;
+  v_contradict = λ d. refl;
   empty = refl;
   fine_empty = tt;
   of_end = λ s t order e f. (end-skip s t order e e.result, tt);
@@ -270,13 +270,13 @@ pub run-sums : (settings : RunSettings) (files : List (List EventView))
     → sums_of (run_after_files (run_start settings) files) ≡ sums_in (all_notes settings files)
 run-sums settings files = (crashed-sums settings files).all_sums
 
-counted-end : (settings : RunSettings) (files : List (List EventView)) (beyond disagree : Bool)
+counted-end : (settings : RunSettings) (files : List (List EventView)) (beyond contradict : Bool)
     → let e = fold with_note no_suites (all_notes settings files) in
     Counts (all_notes settings files)
     (if beyond then record e { outcome = outcome.Failed step.Test }
-    else if disagree then record e { outcome = combined e.outcome (outcome.Cancelled step.Test) }
+    else if contradict then record e { outcome = combined e.outcome (outcome.Cancelled step.Test) }
     else e)
-counted-end settings files true disagree = counted settings files (outcome.Failed step.Test)
+counted-end settings files true contradict = counted settings files (outcome.Failed step.Test)
 counted-end settings files false true =
     counted settings files (combined (fold with_note no_suites (all_notes settings files)).outcome (outcome.Cancelled step.Test))
 counted-end settings files false false = counted settings files (fold with_note no_suites (all_notes settings files)).outcome
@@ -284,5 +284,5 @@ counted-end settings files false false = counted settings files (fold with_note 
 pub totals-count : TotalsAreCounts
 totals-count settings files =
     let r = run_after_files (run_start settings) files in
-    subst (λ e. Counts (all_notes settings files) (ending e r.disagreements r.cancels)) (sym (ap (λ s. s.0) (run-sums settings files)))
-    (counted-end settings files (nat_lt r.cancels r.disagreements) (nat_lt 0 r.disagreements))
+    subst (λ e. Counts (all_notes settings files) (ending e r.contradictions r.cancels)) (sym (ap (λ s. s.0) (run-sums settings files)))
+    (counted-end settings files (nat_lt r.cancels r.contradictions) (nat_lt 0 r.contradictions))

@@ -10,7 +10,7 @@ use Rattle.std.proofs.lemmas.Slice.Eq.{bytes_eq-Decides}
 use Rattle.test_report_events.specs.Event.{AllEndEarly, EventView, SuiteEndView, TestEndView, SuiteStarts, SuiteEnds, TestEnds}
 use Rattle.test_report_events.specs.declared.event.TestResult.{TestResult}
 use Rattle.test_report_events.specs.declared.event.TestResult.TheVariants.{Ok, Failed, Ignored}
-use Rattle.test_report_run_notes.specs.Note.{Disagrees, Fails, NoteView, StrayEnds, StraySuiteEnds, TestIs, TestNoteView}
+use Rattle.test_report_run_notes.specs.Note.{Contradicts, Fails, NoteView, StrayEnds, StraySuiteEnds, TestIs, TestNoteView}
 use Rattle.test_report_laws.proofs.CargoReports.{only-settled_at, ready, reports-none}
 use Rattle.test_report_laws.proofs.EndSums.{by-early, by-last, last_by}
 use Rattle.test_report_laws.proofs.FileEnds.{reported_run, suites-alone}
@@ -55,7 +55,7 @@ none-again r None count (Some at) = none-early r.others nothing_known (cancelled
 none-again r (Some key) count (Some at) = refl
 
 none-ended : (r : RunState) (e : SuiteEndView) (at : Option ℕ) → told (option_map_or (ended_at r e) at (step r (stray_suite_notes e))).notes ≡ 0
-none-ended r e None = sum-if-none weight (counts_tests e) (Disagrees (StraySuiteEnds e.key e.failed_verdict)) refl
+none-ended r e None = sum-if-none weight (counts_tests e) (Contradicts (StraySuiteEnds e.key e.failed_verdict)) refl
 none-ended r e (Some at) =
     let s = with_line (suite_at r (Some at)) e in
     let tests = tests_in r s in
@@ -75,7 +75,7 @@ one-stray : (r : RunState) (e : TestEndView) (how : TestResult) → told (stray_
 one-stray r e Ok = refl
 one-stray r e Failed = omega (
   arith,
-  sum_by-append weight (stray_test r (ends_as e Failed)) (Disagrees (StrayEnds e.name Failed) ∷ []),
+  sum_by-append weight (stray_test r (ends_as e Failed)) (Contradicts (StrayEnds e.name Failed) ∷ []),
   one-end (named (suite_at r (suite_place r e.name)) e.name) (stray_over r e) e Failed,
 )
 one-stray r e Ignored = refl

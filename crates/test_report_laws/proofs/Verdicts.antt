@@ -17,7 +17,7 @@ use Rattle.test_report_laws.proofs.Shown.{early-shows, last-agrees, stray-one}
 use Rattle.test_report_laws.proofs.Sound.{all-known, all-sound, failed-rules}
 use Rattle.test_report_laws.proofs.Sums.{one-most}
 use Rattle.test_report_laws.proofs.Weights.{Keeps, has-number, keeps-line, numbered-end, numbered-line, numbered-ready, numbered-reported, ready-suites, unnumbered, weigh, weight_of}
-use Rattle.test_report_laws.specs.Run.{FailedVerdictShows, IsClean, IsSound, crashed_in, disagreements_in, failed_in, failed_verdicts_of, fails_by, is_crash, is_test, says_failed_verdict}
+use Rattle.test_report_laws.specs.Run.{FailedVerdictShows, IsClean, IsSound, crashed_in, contradictions_in, failed_in, failed_verdicts_of, fails_by, is_crash, is_test, says_failed_verdict}
 use Rattle.test_report_run.specs.Others.{OthersView}
 use Rattle.test_report_run.specs.Over.{EarlyEnd, early_notes, last_notes, nothing_known}
 use Rattle.test_report_run.specs.Running.{RunningView}
@@ -31,7 +31,7 @@ use Rattle.test_report_laws.proofs.Types.{Said}
 abbrev failing : Option ℕ → Said → Option ℕ → ℕ
 failing number said count = cond said.failed_verdict 1 0
 
--- of a failed verdict something failed or disagreed, or a suite is open that has one
+-- for a failed verdict there is a failed test, a contradiction, or an open suite that has one
 abbrev Seen : ℕ → List NoteView → RunState → Type 0
 Seen n notes r = 0 < n → 0 < count_by is_cause notes + weight_of failing r
 
@@ -65,7 +65,7 @@ last-cause : (s : SuiteState) (tests : List RunningView) (known : ℕ) → s.num
     → 0 < known + count_by is_cause (last_notes s tests)
 last-cause s tests known some sound low failed =
     let notes = last_notes s tests in
-    elim (cases_lt 0 (disagreements_in notes)) [
+    elim (cases_lt 0 (contradictions_in notes)) [
       | inl more ↦ omega (arith, causes-of notes)
       | inr none ↦ let agrees = (last-agrees s tests some sound).0 (omega arith) in omega (arith, agrees.verdict.0 failed, causes-of notes)
     ]
@@ -251,7 +251,7 @@ unclean settings files some clean =
       arith,
       seen.1 some,
       clean.none_failed,
-      clean.none_disagree,
+      clean.none_contradict,
       causes-of (all_notes settings files),
       ap (λ (suites : List SuiteState). sum_by (weigh failing) suites) (holds-whole failed-rules settings files).suites,
     )

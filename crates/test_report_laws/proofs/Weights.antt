@@ -4,7 +4,7 @@ use Rattle.std.specs.List.{position, remove, sum_by}
 use Rattle.std.specs.Option.{option_map_or}
 use Rattle.std.specs.Prelude.{◌==◌, if◌then◌else◌, is_none}
 use Rattle.std.proofs.lemmas.List.Sums.{get_or-le-sum_by, sum_by-remove, sum_by-set, sum_by_push}
-use Rattle.test_report_events.specs.Event.{EventView, SuiteEndView, TestEndView, SuiteStarts, SuiteEnds, TestStarts, TestEnds, TestIsSlow, OtherLine, HeadingLine, CargoFails, Prints, DamagedLine, CommandStarts, Cancels, CommandOver, AllEndEarly, ProgramDisagrees}
+use Rattle.test_report_events.specs.Event.{EventView, SuiteEndView, TestEndView, SuiteStarts, SuiteEnds, TestStarts, TestEnds, TestIsSlow, OtherLine, HeadingLine, CargoFails, Prints, DamagedLine, CommandStarts, Cancels, CommandOver, AllEndEarly, ProgramContradicts}
 use Rattle.test_report_events.specs.declared.event.TestResult.{TestResult}
 use Rattle.test_report_events.specs.declared.event.TestResult.TheVariants.{Ok, Failed, Ignored}
 use Rattle.test_report_laws.proofs.Books.{IsIn, none-left, place-in, position-in}
@@ -92,7 +92,7 @@ is_of_suite (CommandStarts names) = false
 is_of_suite (Cancels why) = false
 is_of_suite (CommandOver end) = false
 is_of_suite (AllEndEarly end) = true
-is_of_suite (ProgramDisagrees fault) = false
+is_of_suite (ProgramContradicts fault) = false
 
 -- failures of cargo that become known change no suite
 pub ready-suites : (r : RunState) (e : EventView) → (ready r e).suites ≡ r.suites
@@ -115,7 +115,7 @@ keeps-told r (CommandStarts names) other = λ g. refl
 keeps-told r (Cancels why) other = λ g. refl
 keeps-told r (CommandOver end) other = λ g. refl
 keeps-told r (AllEndEarly end) never = absurd (cc)
-keeps-told r (ProgramDisagrees fault) other = λ g. refl
+keeps-told r (ProgramContradicts fault) other = λ g. refl
 
 -- what a line leaves of the suites, its own notes leave
 pub after-suites : (r : RunState) (e : EventView) → (after r e).suites ≡ (told (ready r e) e).run.suites

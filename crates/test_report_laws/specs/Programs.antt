@@ -46,11 +46,11 @@ FileEndsAreEvents = (s : ProgramsState) → (command : Option CommandView) → l
 abbrev pub ended_well : ProgramEnd → ProgramView → Bool
 ended_well end p = is_zero end && (p.ran || p.may_be_empty)
 
--- how many of the notes are of a failed test, or are disagreements
+-- how many of the notes are of a failed test, or are contradictions
 abbrev pub causes_in : List NoteView → ℕ
 causes_in notes = count_by is_cause notes
 
--- what is kept of the program that runs is known: if something failed, disagreed, crashed or ended early since it started, one of these notes is a cause
+-- what is kept of the program that runs is known: if something failed, crashed, ended early or was contradicted since it started, one of these notes is a cause
 abbrev pub IsKnown : List NoteView → Option ProgramView → Type 0
 IsKnown notes program = IfSome program (λ p. (p.failed || p.broke) ≡ true → 0 < causes_in notes)
 
@@ -59,12 +59,12 @@ abbrev pub LinesKeepKnown : Type 0
 LinesKeepKnown = (known : List NoteView) → (s : ProgramsState) → (events : List EventView) → (line : Option ProgramLineView) → IsKnown known s.program
     → let t = line_told s events line in IsKnown (known ++ t.notes) t.state.program
 
--- If the program that runs is over and did not do well, a test failed or a disagreement became known.
+-- If the program that runs is over and did not do well, a test failed or a contradiction became known.
 abbrev pub FailedProgramShows : Type 0
 FailedProgramShows = (t : ProgramsStep) → (o : OverView) → (p : ProgramView) → IsKnown t.notes t.state.program → t.state.program ≡ Some p
     → ended_well o.end p ≡ false → 0 < causes_in (program_over o t).notes
 
--- If a program ends that did not start, with another status than 0, a disagreement becomes known.
+-- If a program ends that did not start, with another status than 0, a contradiction becomes known.
 abbrev pub UnstartedProgramShows : Type 0
 UnstartedProgramShows = (t : ProgramsStep) → (o : OverView) → t.state.program ≡ None → is_zero o.end ≡ false → 0 < causes_in (ended o t).notes
 
@@ -100,7 +100,7 @@ IsBad s end =
     (is_zero end ≡ false)
     ⊎ ((p : ProgramView) × (s.program ≡ Some p) × (s.over ≡ None) × ((p.ran || p.may_be_empty) ≡ false))
 
--- If a line of a file says that a program ended badly, where such lines count, the file makes a failed test or a disagreement known.
+-- If a line of a file says that a program ended badly, where such lines count, the file makes a failed test or a contradiction known.
 abbrev pub FailedEndShows : Type 0
 FailedEndShows = (run : RunState) → (first rest : List LineOf) → (end : ProgramEnd) → (stderr : List ℕ) → (command : Option CommandView)
     → let s = (lines_told (programs_start run) first).state in unwrap_or s.counts true ≡ true → IsBad s end

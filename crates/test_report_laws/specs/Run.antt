@@ -3,11 +3,11 @@ use Rattle.std.specs.Prelude.{◌++◌, ◌≡◌, ◌≢◌, All, IfSome, None,
 use Rattle.std.specs.List.{count_by, sum_by}
 use Rattle.run_events_stats.specs.declared.outcome.run_outcome.RunOutcome.{RunOutcome}
 use Rattle.run_events_stats.specs.declared.outcome.run_outcome.RunOutcome.TheVariants as outcome
-use Rattle.test_report_events.specs.Event.{EventView, SuiteEndView, TestEndView, SuiteStarts, SuiteEnds, TestStarts, TestEnds, TestIsSlow, OtherLine, HeadingLine, CargoFails, Prints, DamagedLine, CommandStarts, Cancels, CommandOver, AllEndEarly, ProgramDisagrees, CommandView, WithStatus}
+use Rattle.test_report_events.specs.Event.{EventView, SuiteEndView, TestEndView, SuiteStarts, SuiteEnds, TestStarts, TestEnds, TestIsSlow, OtherLine, HeadingLine, CargoFails, Prints, DamagedLine, CommandStarts, Cancels, CommandOver, AllEndEarly, ProgramContradicts, CommandView, WithStatus}
 use Rattle.test_report_events.specs.declared.event.CargoFailure.{CargoFailure}
 use Rattle.test_report_events.specs.declared.event.TestResult.{TestResult}
 use Rattle.test_report_events.specs.declared.event.TestResult.TheVariants.{Ok, Failed, Ignored}
-use Rattle.test_report_run_notes.specs.Note.{Disagrees, Fails, FlakyEnds, HasCrashed, HasFailed, HasNoEnd, HasTimedOut, IsFlaky, IsNotRun, IsSkipped, IsStopped, KindView, NoteView, OutcomeView, Passes, SuiteIs, SuiteNoteView, TestIs, TestNoteView, failed_of}
+use Rattle.test_report_run_notes.specs.Note.{Contradicts, Fails, FlakyEnds, HasCrashed, HasFailed, HasNoEnd, HasTimedOut, IsFlaky, IsNotRun, IsSkipped, IsStopped, KindView, NoteView, OutcomeView, Passes, SuiteIs, SuiteNoteView, TestIs, TestNoteView, failed_of}
 use Rattle.test_report_run_notes.specs.declared.note.RunEnd.{RunEnd}
 use Rattle.test_report_run_notes.specs.declared.note.SaidNumbers.{SaidNumbers}
 use Rattle.test_report_run.specs.Events.{is_event}
@@ -15,7 +15,7 @@ use Rattle.test_report_run.specs.Ended.{failure_of}
 use Rattle.test_report_run.specs.Others.{OthersView}
 use Rattle.test_report_run.specs.Over.{EarlyEnd, early_notes, last_notes}
 use Rattle.test_report_run.specs.FileEnd.{file_notes}
-use Rattle.test_report_run.specs.Run.{RunSettings, RunState, counts_tests, has_failed, is_disagreement, notes_at, open_suite, run_start, told}
+use Rattle.test_report_run.specs.Run.{RunSettings, RunState, counts_tests, has_failed, is_contradiction, notes_at, open_suite, run_start, told}
 use Rattle.test_report_run.specs.Running.{RunningView, ends_in_number, without_number}
 use Rattle.test_report_run.specs.Said.{numbers_of}
 use Rattle.test_report_run.specs.Suite.{SuiteState}
@@ -45,7 +45,7 @@ says_failed (CommandStarts names) = false
 says_failed (Cancels why) = false
 says_failed (CommandOver end) = false
 says_failed (AllEndEarly end) = false
-says_failed (ProgramDisagrees fault) = false
+says_failed (ProgramContradicts fault) = false
 
 -- a failure of this kind has a line that says so
 abbrev pub is_told : KindView → Bool
@@ -66,7 +66,7 @@ fails_as_told (Fails failure) = is_told failure.kind
 abbrev pub is_told_failure : NoteView → Bool
 is_told_failure (TestIs t) = fails_as_told t.outcome
 is_told_failure (FlakyEnds t) = false
-is_told_failure (Disagrees d) = false
+is_told_failure (Contradicts d) = false
 is_told_failure (IsNotRun suite n of) = false
 is_told_failure (SuiteIs s) = false
 
@@ -99,7 +99,7 @@ FailureIsTold = (r : RunState) → (e : TestEndView) → e.result ≡ Failed
 abbrev pub is_test : (TestNoteView → Bool) → NoteView → Bool
 is_test rule (TestIs t) = rule t
 is_test rule (FlakyEnds t) = false
-is_test rule (Disagrees d) = false
+is_test rule (Contradicts d) = false
 is_test rule (IsNotRun suite n of) = false
 is_test rule (SuiteIs s) = false
 
@@ -172,7 +172,7 @@ crashed_in notes = count_by (is_test (λ t. fails_by is_crash t.outcome)) notes
 abbrev pub not_run_of : NoteView → ℕ
 not_run_of (TestIs t) = 0
 not_run_of (FlakyEnds t) = 0
-not_run_of (Disagrees d) = 0
+not_run_of (Contradicts d) = 0
 not_run_of (IsNotRun suite n of) = 0
 not_run_of (SuiteIs s) = s.not_run
 
@@ -199,22 +199,22 @@ TotalsAreCounts = (settings : RunSettings) → (files : List (List EventView)) �
 
 -- What the outcome means.
 
--- how many disagreements there are
-abbrev pub disagreements_in : List NoteView → ℕ
-disagreements_in notes = count_by is_disagreement notes
+-- how many contradictions there are
+abbrev pub contradictions_in : List NoteView → ℕ
+contradictions_in notes = count_by is_contradiction notes
 
--- no test failed, no lines disagree, and no suite has tests that were not run
+-- no test failed, there is no contradiction, and no suite has tests that were not run
 pub record IsClean (notes : List NoteView) : Type 0 where
   pub none_failed : failed_in notes ≡ 0
-  pub none_disagree : disagreements_in notes ≡ 0
+  pub none_contradict : contradictions_in notes ≡ 0
   pub all_run : not_run_in notes ≡ 0
 
 -- The outcome is `Success` if and only if the run is clean and a test passed, and `NoTestsRun` if and only if it is clean and no test passed. Every
--- other outcome has a cause: a failed test, a disagreement or a test that was not run.
+-- other outcome has a cause: a failed test, a contradiction or a test that was not run.
 pub record Means (notes : List NoteView) (o : RunOutcome) : Type 0 where
   pub success : (o ≡ outcome.Success) ↔ (IsClean notes × (0 < passed_in notes))
   pub no_tests : (o ≡ outcome.NoTestsRun) ↔ (IsClean notes × (passed_in notes ≡ 0))
-  pub others : o ≢ outcome.Success → o ≢ outcome.NoTestsRun → 0 < failed_in notes + disagreements_in notes + not_run_in notes
+  pub others : o ≢ outcome.Success → o ≢ outcome.NoTestsRun → 0 < failed_in notes + contradictions_in notes + not_run_in notes
 
 -- This is what the outcome of every run means.
 abbrev pub OutcomeMeans : Type 0
@@ -233,22 +233,22 @@ pub record IsSound (s : SuiteState) : Type 0 where
   pub retried : All (λ f. IsTrue (nat_lt 1 f.test.attempts)) s.flaky
   pub passed : s.stats.passed ≤ s.stats.finished_count
 
--- A suite that ends by its last line makes no disagreement known if and only if the line agrees with the tests: those that became known before, and
+-- A suite that ends by its last line makes no contradiction known if and only if the line agrees with the tests: those that became known before, and
 -- those that become known now.
 abbrev pub LastLineAgrees : Type 0
 LastLineAgrees = (s : SuiteState) → (tests : List RunningView) → s.number ≢ None → IsSound s
-    → (disagreements_in (last_notes s tests) ≡ 0)
+    → (contradictions_in (last_notes s tests) ≡ 0)
     ↔ Agrees (numbers_of s.said) (s.stats.passed + passed_in (last_notes s tests)) (failed_of s.stats + failed_in (last_notes s tests))
 
--- A suite that ends early makes a crashed test or a disagreement known, and so does a file with tests outside of a suite.
+-- A suite that ends early makes a crashed test or a contradiction known, and so does a file with tests outside of a suite.
 abbrev pub EarlyEndShows : Type 0
 EarlyEndShows = (others : OthersView) → (how : EarlyEnd) → (s : SuiteState) → (tests : List RunningView) → (s.number ≡ None → 0 < s.started)
-    → 0 < crashed_in (early_notes others how s tests) + disagreements_in (early_notes others how s tests)
+    → 0 < crashed_in (early_notes others how s tests) + contradictions_in (early_notes others how s tests)
 
--- A last line of a suite that is not open makes by itself a disagreement known if and only if it has a failed verdict or counts tests that ran.
+-- A last line of a suite that is not open makes by itself a contradiction known if and only if it has a failed verdict or counts tests that ran.
 abbrev pub StrayEndShows : Type 0
 StrayEndShows = (r : RunState) → (e : SuiteEndView) → open_suite r e.key ≡ None
-    → disagreements_in (told r (SuiteEnds e)).notes ≡ (if counts_tests e then 1 else 0)
+    → contradictions_in (told r (SuiteEnds e)).notes ≡ (if counts_tests e then 1 else 0)
 
 -- how many lines of a file say that a test failed
 abbrev pub failed_lines_in : List EventView → ℕ
@@ -297,7 +297,7 @@ says_failed_verdict (CommandStarts names) = false
 says_failed_verdict (Cancels why) = false
 says_failed_verdict (CommandOver end) = false
 says_failed_verdict (AllEndEarly end) = false
-says_failed_verdict (ProgramDisagrees fault) = false
+says_failed_verdict (ProgramContradicts fault) = false
 
 -- how many last lines of suites in a file have a failed verdict
 abbrev pub failed_verdicts_in : List EventView → ℕ
@@ -328,7 +328,7 @@ is_damaged (CommandStarts names) = false
 is_damaged (Cancels why) = false
 is_damaged (CommandOver end) = false
 is_damaged (AllEndEarly end) = false
-is_damaged (ProgramDisagrees fault) = false
+is_damaged (ProgramContradicts fault) = false
 
 -- how many lines of a file are damaged, and say that a test or a suite failed
 abbrev pub damaged_lines_in : List EventView → ℕ
@@ -365,12 +365,12 @@ pub record IsWhole (s : SuiteState) (tests : List RunningView) : Type 0 where
   pub all_announced : (n : SuiteNoteView) → Contains (last_notes s tests) (SuiteIs n)
       → IfSome s.test_count (λ count. count ≤ n.stats.finished_count + n.skipped)
 
--- If a suite that ends by its last line makes no failed test, no disagreement and no test that was not run known, it is whole.
+-- If a suite that ends by its last line makes no failed test, no contradiction and no test that was not run known, it is whole.
 abbrev pub CleanEndIsWhole : Type 0
 CleanEndIsWhole = (s : SuiteState) → (tests : List RunningView) → IsClean (last_notes s tests) → IsWhole s tests
 
--- If cargo reports a failure while no suite is open, in a file that is not the output of a command, a test failed or a disagreement becomes known.
+-- If cargo reports a failure while no suite is open, in a file that is not the output of a command, a test failed or a contradiction becomes known.
 abbrev pub CargoFailureShows : Type 0
 CargoFailureShows = (settings : RunSettings) → (files : List (List EventView)) → (r : RunState) → (f : CargoFailure) → (line plain : List ℕ)
     → (at : IsLineOf settings files r (CargoFails f line plain)) → r.suites ≡ [] → (run_at_end at).of_command ≡ false
-    → 0 < failed_in (all_notes settings files) + disagreements_in (all_notes settings files)
+    → 0 < failed_in (all_notes settings files) + contradictions_in (all_notes settings files)

@@ -3,9 +3,9 @@ use Rattle.std.specs.Prelude.{◌+◌, [], ◌≡◌, ◌≢◌, ◌≤◌, ◌<
 use Rattle.std.specs.List.{sum_by}
 use Rattle.std.specs.Option.{option_map_or}
 use Rattle.run_events_stats.specs.declared.outcome.run_outcome.RunOutcome.TheVariants as outcome
-use Rattle.test_report_events.specs.Event.{EarlyEndView, EventView, SuiteEndView, SuiteStarts, SuiteEnds, TestStarts, TestEnds, TestIsSlow, OtherLine, HeadingLine, CargoFails, Prints, DamagedLine, CommandStarts, Cancels, CommandOver, AllEndEarly, ProgramDisagrees, WithStatus}
+use Rattle.test_report_events.specs.Event.{EarlyEndView, EventView, SuiteEndView, SuiteStarts, SuiteEnds, TestStarts, TestEnds, TestIsSlow, OtherLine, HeadingLine, CargoFails, Prints, DamagedLine, CommandStarts, Cancels, CommandOver, AllEndEarly, ProgramContradicts, WithStatus}
 use Rattle.test_report_events.specs.declared.event.CargoFailure.{CargoFailure}
-use Rattle.test_report_run_notes.specs.Note.{Disagrees, Fails, FlakyEnds, IsNotRun, IsSkipped, IsStopped, NoteView, OutcomeView, Passes, SuiteIs, TestIs, TestNoteView}
+use Rattle.test_report_run_notes.specs.Note.{Contradicts, Fails, FlakyEnds, IsNotRun, IsSkipped, IsStopped, NoteView, OutcomeView, Passes, SuiteIs, TestIs, TestNoteView}
 use Rattle.test_report_run_notes.specs.declared.note.RunEnd.{RunEnd}
 use Rattle.test_report_laws.specs.Run.{Agrees, IsClean, damaged_lines_of, events_in, failed_lines_of, failed_verdicts_of, not_run_in, passed_in, skipped_in}
 use Rattle.test_report_run.specs.Running.{RunningView}
@@ -40,7 +40,7 @@ is_stopped_outside t = was_stopped t.outcome && is_none t.suite
 abbrev pub named_not_run : NoteView → ℕ
 named_not_run (TestIs t) = if is_stopped_outside t then 1 else 0
 named_not_run (FlakyEnds t) = 0
-named_not_run (Disagrees d) = 0
+named_not_run (Contradicts d) = 0
 named_not_run (IsNotRun suite n of) = n
 named_not_run (SuiteIs s) = 0
 
@@ -53,11 +53,11 @@ NotRunIsNamed = (settings : RunSettings) → (files : List (List EventView))
 abbrev pub is_not_run : NoteView → Bool
 is_not_run (TestIs t) = false
 is_not_run (FlakyEnds t) = false
-is_not_run (Disagrees d) = false
+is_not_run (Contradicts d) = false
 is_not_run (IsNotRun suite n of) = true
 is_not_run (SuiteIs s) = false
 
--- the note says why a run does not succeed: a failed test, a disagreement, or a suite whose tests were not all run
+-- the note says why a run does not succeed: a failed test, a contradiction, or a suite whose tests were not all run
 abbrev pub is_reason : NoteView → Bool
 is_reason note = is_cause note || is_not_run note
 
@@ -85,7 +85,7 @@ announced_by (CommandStarts names) = 0
 announced_by (Cancels why) = 0
 announced_by (CommandOver end) = 0
 announced_by (AllEndEarly end) = 0
-announced_by (ProgramDisagrees fault) = 0
+announced_by (ProgramContradicts fault) = 0
 
 -- how many tests the first lines of suites announce in all files
 abbrev pub announced_of : List (List EventView) → ℕ
@@ -104,7 +104,7 @@ pub record EndsInOrder (s : SuiteState) (tests : List RunningView) : Type 0 wher
 
 -- nothing is wrong with the lines of a run
 pub record IsInOrder (settings : RunSettings) (files : List (List EventView)) : Type 0 where
-  -- no test failed, no lines disagree, and no suite has tests that were not run
+  -- no test failed, there is no contradiction, and no suite has tests that were not run
   pub clean : IsClean (all_notes settings files)
   -- no line says that a test failed, and no last line of a suite has a failed verdict
   pub no_failed_line : failed_lines_of files ≡ 0

@@ -18,14 +18,14 @@ pub fn totals_are_counts()
     ensures { TotalsAreCounts }
 {}
 
-/// The outcome of a run is `Success` or `NoTestsRun` if and only if no test failed, no lines disagree, and no
+/// The outcome of a run is `Success` or `NoTestsRun` if and only if no test failed, there is no contradiction, and no
 /// suite has tests that were not run. Skipped tests do not count as not run. It is `Success` if and only if
 /// also a test passed.
 pub fn outcome_means()
     ensures { OutcomeMeans }
 {}
 
-/// No contradiction is hidden. The last line of a suite agrees with its tests, or a disagreement becomes
+/// No contradiction is hidden. The last line of a suite agrees with its tests, or a contradiction becomes
 /// known. The same is true of a suite that ends early, and of a last line that counts tests of a suite that
 /// is not open.
 pub fn nothing_is_hidden()
@@ -47,7 +47,7 @@ pub fn failed_lines_show()
 /// damaged line that says that a test or a suite failed. Each of its commands whose end is known ended with status 0,
 /// and each of its other files has an event of a harness. A suite whose last line makes nothing wrong known has skipped
 /// each test that has no end, and ran or skipped as many tests as it announced. If cargo reports a failure while no suite
-/// is open, other than in the output of a command, a failed test or a disagreement becomes known.
+/// is open, other than in the output of a command, a failed test or a contradiction becomes known.
 pub fn success_means()
     ensures verdicts { FailedVerdictShows }
     ensures damaged { DamagedLineShows }
@@ -57,7 +57,7 @@ pub fn success_means()
     ensures cargo { CargoFailureShows }
 {}
 
-/// A run that does not succeed has a reason that becomes known: a failed test, a disagreement, or a
+/// A run that does not succeed has a reason that becomes known: a failed test, a contradiction, or a
 /// suite whose tests were not all run, which a note names. Otherwise its outcome is `NoTestsRun`, and no
 /// test passed.
 pub fn failure_has_reason()
@@ -66,7 +66,7 @@ pub fn failure_has_reason()
 {}
 
 /// If the outcome is `Success`, a test passed, and nothing is wrong with the lines of the run: no test
-/// failed, no lines disagree, and no suite has tests that were not run. No line says that a test failed, no
+/// failed, there is no contradiction, and no suite has tests that were not run. No line says that a test failed, no
 /// last line of a suite has a failed verdict, and no damaged line says that a test or a suite failed. Each
 /// command whose end is known ended with status 0, and each other file has an event of a harness. Each last line that
 /// ends a suite agrees with its tests, and each of them ended or was skipped. A last line of a suite that is not open

@@ -6,7 +6,7 @@ use Rattle.std.proofs.lemmas.List.Elements.{filter-append}
 use Rattle.std.specs.Option.{option_map_or}
 use Rattle.std.specs.Str.Lines.{lines}
 use Rattle.run_events_results.specs.declared.results.CancelReason.{CancelReason}
-use Rattle.test_report_events.specs.Event.{AllEndEarly, Cancels, CommandOver, CommandView, EarlyEndView, EndsUnstarted, EventView, IsCutOff, ProgramDisagrees, ProgramFaultView}
+use Rattle.test_report_events.specs.Event.{AllEndEarly, Cancels, CommandOver, CommandView, EarlyEndView, EndsUnstarted, EventView, IsCutOff, ProgramContradicts, ProgramFaultView}
 use Rattle.test_report_events.specs.Program.{CommandEnds, CommandIsCancelled, ProgramLineView}
 use Rattle.test_report_events.specs.declared.program.ProgramEnd.{ProgramEnd}
 use Rattle.test_report_run_notes.specs.Note.{NoteView}
@@ -34,12 +34,12 @@ forgotten t None = refl
 forgotten t (Some e) = refl
 
 pub ended-early : (rule : ProgramView → Option ProgramFaultView) (t0 t1 t2 : ProgramsStep) (e : EventView) (fault : Option ProgramFaultView) → t1 ≡ told t0 e
-    → fault ≡ option_and_then rule t1.state.program → t2 ≡ told_if (without_program t1) (option_map ProgramDisagrees fault)
+    → fault ≡ option_and_then rule t1.state.program → t2 ≡ told_if (without_program t1) (option_map ProgramContradicts fault)
     → t2 ≡ without_program (judged rule (told t0 e))
 ended-early rule t0 t1 t2 e fault ended wrong tells =
     tells
-    ∙ forgotten t1 (option_map ProgramDisagrees fault)
-    ∙ ap (λ f. without_program (told_if t1 (option_map ProgramDisagrees f))) wrong
+    ∙ forgotten t1 (option_map ProgramContradicts fault)
+    ∙ ap (λ f. without_program (told_if t1 (option_map ProgramContradicts f))) wrong
     ∙ ap (λ t. without_program (judged rule t)) ended
 
 -- a value is there, or none is, just where one is that it is made of
@@ -97,21 +97,21 @@ running-ended o t = cond (may_be_cancelled o.end) (put-off o t) (program_over o 
 -- a program ended, after an end that was put off
 pub ended-zero : (o : OverView) (t0 t1 : ProgramsStep) → t1 ≡ settled t0 → is_none t1.state.program ≡ true → is_zero o.end ≡ true → t1 ≡ ended o (settled t0)
 ended-zero o t0 t1 settles none zero =
-    sym (ap (λ b. cond b (cond (is_zero o.end) t1 (told t1 (ProgramDisagrees (EndsUnstarted o.end)))) (running-ended o t1)) none
-    ∙ ap (λ b. cond b t1 (told t1 (ProgramDisagrees (EndsUnstarted o.end)))) zero)
+    sym (ap (λ b. cond b (cond (is_zero o.end) t1 (told t1 (ProgramContradicts (EndsUnstarted o.end)))) (running-ended o t1)) none
+    ∙ ap (λ b. cond b t1 (told t1 (ProgramContradicts (EndsUnstarted o.end)))) zero)
     ∙ ap (ended o) settles
 
 pub ended-unstarted : (o : OverView) (t0 t1 t2 : ProgramsStep) → t1 ≡ settled t0 → is_none t1.state.program ≡ true → is_zero o.end ≡ false
-    → t2 ≡ told t1 (ProgramDisagrees (EndsUnstarted o.end)) → t2 ≡ ended o (settled t0)
+    → t2 ≡ told t1 (ProgramContradicts (EndsUnstarted o.end)) → t2 ≡ ended o (settled t0)
 ended-unstarted o t0 t1 t2 settles none zero tells =
     tells
-    ∙ sym (ap (λ b. cond b (cond (is_zero o.end) t1 (told t1 (ProgramDisagrees (EndsUnstarted o.end)))) (running-ended o t1)) none
-    ∙ ap (λ b. cond b t1 (told t1 (ProgramDisagrees (EndsUnstarted o.end)))) zero)
+    ∙ sym (ap (λ b. cond b (cond (is_zero o.end) t1 (told t1 (ProgramContradicts (EndsUnstarted o.end)))) (running-ended o t1)) none
+    ∙ ap (λ b. cond b t1 (told t1 (ProgramContradicts (EndsUnstarted o.end)))) zero)
     ∙ ap (ended o) settles
 
 ended-running : (o : OverView) (t0 t1 : ProgramsStep) → t1 ≡ settled t0 → is_none t1.state.program ≡ false → running-ended o t1 ≡ ended o (settled t0)
 ended-running o t0 t1 settles some =
-    sym (ap (λ b. cond b (cond (is_zero o.end) t1 (told t1 (ProgramDisagrees (EndsUnstarted o.end)))) (running-ended o t1)) some) ∙ ap (ended o) settles
+    sym (ap (λ b. cond b (cond (is_zero o.end) t1 (told t1 (ProgramContradicts (EndsUnstarted o.end)))) (running-ended o t1)) some) ∙ ap (ended o) settles
 
 pub ended-put_off : (o p : OverView) (t0 t1 : ProgramsStep) → t1 ≡ settled t0 → is_none t1.state.program ≡ false → may_be_cancelled o.end ≡ true
     → p ≡ o → put-off p t1 ≡ ended o (settled t0)
@@ -198,7 +198,7 @@ command-ends t0 t1 t2 run end error reason view cancelled lost is ends next =
 
 -- before the end of a file, in which lines of programs do not count, in which the command ended, or in which no line says so
 abbrev cut-off : ProgramsStep → ProgramsStep
-cut-off t = cond t.state.is_done t (told t (ProgramDisagrees IsCutOff))
+cut-off t = cond t.state.is_done t (told t (ProgramContradicts IsCutOff))
 
 abbrev closed-by : Bool → ProgramsState → ProgramsStep
 closed-by counts s = cond counts (cut-off (program_lost (settled (same s)))) (same s)
@@ -209,13 +209,13 @@ closed-uncounted s is = sym (ap (λ n. closed-by n s) is)
 pub closed-done : (s : ProgramsState) (t : ProgramsStep) → unwrap_or s.counts false ≡ true → t ≡ program_lost (settled (same s)) → t.state.is_done ≡ true
     → t ≡ closed s
 closed-done s t is lost over =
-    sym (ap (λ b. cond b t (told t (ProgramDisagrees IsCutOff))) over) ∙ (ap cut-off lost ∙ sym (ap (λ n. closed-by n s) is))
+    sym (ap (λ b. cond b t (told t (ProgramContradicts IsCutOff))) over) ∙ (ap cut-off lost ∙ sym (ap (λ n. closed-by n s) is))
 
 pub closed-cut : (s : ProgramsState) (t t2 : ProgramsStep) → unwrap_or s.counts false ≡ true → t ≡ program_lost (settled (same s)) → t.state.is_done ≡ false
-    → t2 ≡ told t (ProgramDisagrees IsCutOff) → t2 ≡ closed s
+    → t2 ≡ told t (ProgramContradicts IsCutOff) → t2 ≡ closed s
 closed-cut s t t2 is lost still tells =
     tells
-    ∙ (sym (ap (λ b. cond b t (told t (ProgramDisagrees IsCutOff))) still) ∙ (ap cut-off lost ∙ sym (ap (λ n. closed-by n s) is)))
+    ∙ (sym (ap (λ b. cond b t (told t (ProgramContradicts IsCutOff))) still) ∙ (ap cut-off lost ∙ sym (ap (λ n. closed-by n s) is)))
 
 -- the end of a file
 pub file-over : (s0 s2 : ProgramsState) (t1 : ProgramsStep) (run : RunState) (notes all : List NoteView) (command : Option CommandView) → t1 ≡ closed s0

@@ -4,20 +4,20 @@ use Rattle.std.specs.List.{fold, list_any}
 use Rattle.std.specs.Option.{option_map_or}
 use Rattle.std.specs.Ordering.{int_eq}
 use Rattle.std.specs.Str.Lines.{lines}
-use Rattle.test_report_events.specs.Event.{AllEndEarly, BySignal, CargoFails, Cancels, CommandOver, CommandStarts, CommandView, DamagedLine, EarlyEndView, EndsUnexplained, EndsUnstarted, EventView, HeadingLine, IsCutOff, NeverEnds, NotStarted, OtherLine, Prints, ProgramDisagrees, ProgramFaultView, RunsNoTest, SuiteEnds, SuiteStarts, TestEnds, TestIsSlow, TestStarts, WithError, WithStatus}
+use Rattle.test_report_events.specs.Event.{AllEndEarly, BySignal, CargoFails, Cancels, CommandOver, CommandStarts, CommandView, DamagedLine, EarlyEndView, EndsUnexplained, EndsUnstarted, EventView, HeadingLine, IsCutOff, NeverEnds, NotStarted, OtherLine, Prints, ProgramContradicts, ProgramFaultView, RunsNoTest, SuiteEnds, SuiteStarts, TestEnds, TestIsSlow, TestStarts, WithError, WithStatus}
 use Rattle.test_report_events.specs.Program.{CommandBegins, CommandEnds, CommandIsCancelled, ProgramEnds, ProgramLineView, ProgramStartView, ProgramStarts}
 use Rattle.test_report_events.specs.declared.program.ProgramEnd.{ProgramEnd}
 use Rattle.test_report_events.specs.declared.program.ProgramEnd.TheVariants.{Signal, Status}
 use Rattle.test_report_run.specs.FileEnd.{after_file, file_notes, with_command}
 use Rattle.test_report_run.specs.Run.{RunState, after, is_cause, notes_at, run_state}
-use Rattle.test_report_run_notes.specs.Note.{CargoSays, CommandFails, DisagreementView, Disagrees, EndsEarly, Fails, FlakyEnds, HasCrashed, HasFailed, HasNoEnd, HasNoEvent, HasTimedOut, IsDamaged, IsFlaky, IsNotRun, IsSkipped, IsStopped, KindView, NoteView, OfProgram, OutcomeView, Passes, SaysOther, StartsOutside, StrayEnds, StraySuiteEnds, SuiteIs, TestIs, WasCancelled}
+use Rattle.test_report_run_notes.specs.Note.{CargoSays, CommandFails, ContradictionView, Contradicts, EndsEarly, Fails, FlakyEnds, HasCrashed, HasFailed, HasNoEnd, HasNoEvent, HasTimedOut, IsDamaged, IsFlaky, IsNotRun, IsSkipped, IsStopped, KindView, NoteView, OfProgram, OutcomeView, Passes, SaysOther, StartsOutside, StrayEnds, StraySuiteEnds, SuiteIs, TestIs, WasCancelled}
 use Rattle.test_report_programs.specs.Names.{threads_of}
 use Rattle.test_report_programs.specs.declared.program.Over.{Over}
 use Rattle.test_report_programs.specs.declared.program.Program.{Program}
 use Rattle.test_report_programs.specs.declared.run.ProgramRun.{ProgramRun}
 
 -- the program that runs: its name, whether it may run no tests, and what became known since it started: whether one of its suites or tests started,
--- whether something failed or disagreed, and whether a test crashed or a suite ended early
+-- whether there is a failed test or a contradiction, and whether a test crashed or a suite ended early
 pub record ProgramView : Type 0 where
   pub name : List ℕ
   pub may_be_empty : Bool
@@ -83,7 +83,7 @@ is_crash_kind IsFlaky = false
 is_crash_kind (HasCrashed crash) = true
 
 -- a suite ended early
-abbrev pub is_early : DisagreementView → Bool
+abbrev pub is_early : ContradictionView → Bool
 is_early (EndsEarly suite end) = true
 is_early (SaysOther suite said passed failed) = false
 is_early (StrayEnds name how) = false
@@ -107,7 +107,7 @@ is_crash (Fails failure) = is_crash_kind failure.kind
 abbrev pub is_break : NoteView → Bool
 is_break (TestIs t) = is_crash t.outcome
 is_break (FlakyEnds t) = false
-is_break (Disagrees d) = is_early d
+is_break (Contradicts d) = is_early d
 is_break (IsNotRun suite n of) = false
 is_break (SuiteIs s) = false
 
@@ -127,7 +127,7 @@ is_start (CommandStarts names) = false
 is_start (CommandOver end) = false
 is_start (Cancels reason) = false
 is_start (AllEndEarly end) = false
-is_start (ProgramDisagrees fault) = false
+is_start (ProgramContradicts fault) = false
 
 -- the program after an event that starts a suite or a test, or does not, and that made this known
 abbrev pub with_notes : Bool → List NoteView → ProgramView → ProgramView
@@ -201,7 +201,7 @@ lost_fault p = if p.failed then None else Some (NeverEnds p.name)
 
 -- the fault of the program that runs, if there is one
 abbrev pub judged : (ProgramView → Option ProgramFaultView) → ProgramsStep → ProgramsStep
-judged rule t = told_if t (option_map ProgramDisagrees (option_and_then rule t.state.program))
+judged rule t = told_if t (option_map ProgramContradicts (option_and_then rule t.state.program))
 
 -- the program is over: its standard error is printed, all that is open ends early, and then its end is judged
 abbrev pub program_over : OverView → ProgramsStep → ProgramsStep
@@ -223,7 +223,7 @@ may_be_cancelled (Status code) = int_eq code (pos 130) || int_eq code (pos 143)
 -- a program ended so. Whether the run is cancelled may be in the next line: then the end is put off
 abbrev pub ended : OverView → ProgramsStep → ProgramsStep
 ended o t =
-    if is_none t.state.program then (if is_zero o.end then t else told t (ProgramDisagrees (EndsUnstarted o.end)))
+    if is_none t.state.program then (if is_zero o.end then t else told t (ProgramContradicts (EndsUnstarted o.end)))
     else if may_be_cancelled o.end then record t { state = record (t.state) { over = Some o } }
     else program_over o t
 
@@ -291,7 +291,7 @@ is_counted (CommandStarts names) = false
 is_counted (CommandOver end) = false
 is_counted (Cancels reason) = false
 is_counted (AllEndEarly end) = false
-is_counted (ProgramDisagrees fault) = false
+is_counted (ProgramContradicts fault) = false
 
 -- those of the events of a line that are told
 abbrev pub events_taken : Bool → List EventView → List EventView
@@ -320,7 +320,7 @@ line_told s events line =
 abbrev pub closed : ProgramsState → ProgramsStep
 closed s =
     if unwrap_or s.counts false then
-    (let t = program_lost (settled (same s)) in if t.state.is_done then t else told t (ProgramDisagrees IsCutOff))
+    (let t = program_lost (settled (same s)) in if t.state.is_done then t else told t (ProgramContradicts IsCutOff))
     else same s
 
 -- the end of a file, whose command ended so, if it is known

@@ -16,7 +16,7 @@ use test_report_events::event::Event;
 use test_report_events::program::{ProgramEnd, ProgramStart};
 use test_report_run::early::EarlyEnd;
 use test_report_run_notes::note::{
-    CommandEnd, Disagreement, FailureKind, Note, ProgramFault, TestOutcome,
+    CommandEnd, Contradiction, FailureKind, Note, ProgramFault, TestOutcome,
 };
 
 /// The status with which Rust's test harness ends if a test failed.
@@ -43,7 +43,7 @@ pub(crate) struct Program {
     /// True if one of its suites or tests started.
     ran: bool,
 
-    /// True if something failed or disagreed since it started.
+    /// True if a test failed or lines contradicted each other since it started.
     failed: bool,
 
     /// True if a test crashed or a suite ended early since it started.
@@ -260,7 +260,7 @@ fn is_failure(note: &Note) -> bool
 {
     match note {
         Note::Test(test) => matches!(test.outcome, TestOutcome::Failed(_)),
-        Note::Disagreement(_) => true,
+        Note::Contradiction(_) => true,
         Note::Flaky(_) | Note::NotRun(_) | Note::Suite(_) => false,
     }
 }
@@ -275,7 +275,10 @@ fn is_break(note: &Note) -> bool
             TestOutcome::Passed { .. } | TestOutcome::Skipped { .. } | TestOutcome::Stopped =>
                 false,
         },
-        Note::Disagreement(disagreement) => matches!(disagreement, Disagreement::EndedEarly { .. }),
+        Note::Contradiction(contradiction) => matches!(
+            contradiction,
+            Contradiction::EndedEarly { .. }
+        ),
         Note::Flaky(_) | Note::NotRun(_) | Note::Suite(_) => false,
     }
 }

@@ -2,7 +2,7 @@
 use Rattle.std.proofs.Common.{◌≡◌, ◌++◌, ◌+◌, ℕ, List, [], Option, false, length, drop, map, take, if◌then◌else◌, append_assoc}
 use Rattle.test_report_run_notes.specs.Note.{HasNoEnd, NoteView}
 use Rattle.test_report_run.specs.Others.{OthersView}
-use Rattle.test_report_run.specs.Over.{EarlyEnd, crash_of, crashed_notes, crashed_of, early_disagreements, early_notes, explained_of, failed_notes, flaky_notes, last_disagreement, last_notes, number_notes, skipped_note, stopped_note, stopped_of, with_all_flaky, with_failed}
+use Rattle.test_report_run.specs.Over.{EarlyEnd, crash_of, crashed_notes, crashed_of, early_contradictions, early_notes, explained_of, failed_notes, flaky_notes, last_contradiction, last_notes, number_notes, skipped_note, stopped_note, stopped_of, with_all_flaky, with_failed}
 use Rattle.std.specs.Option.{option_or}
 use Rattle.test_report_run.specs.Running.{RunningView}
 use Rattle.test_report_run.specs.Suite.{SuiteState}
@@ -14,7 +14,7 @@ pub early-notes : (others : OthersView) (how : EarlyEnd) (s s1 s2 : SuiteState) 
     → s1 ≡ record s { stats = with_failed s.stats crashed; crashed = s.crashed + n } → n1 ≡ old ++ crashed_notes s (crash_of others how.end s n) crashed
     → n2 ≡ n1 ++ map (stopped_note s1) stopped
     → s2 ≡ record s1 { stats = with_all_flaky false s1.stats s1.flaky; flaky = [] } → n3 ≡ n2 ++ flaky_notes s1 false
-    → n4 ≡ n3 ++ early_disagreements s2 how.end crashes → n5 ≡ n4 ++ number_notes s2 record { skipped = s2.skipped; left = left; time = s2.time }
+    → n4 ≡ n3 ++ early_contradictions s2 how.end crashes → n5 ≡ n4 ++ number_notes s2 record { skipped = s2.skipped; left = left; time = s2.time }
     → n5 ≡ old ++ early_notes others how s tests
 early-notes others how s s1 s2 tests crashed stopped n crashes left old n1 n2 n3 n4 n5 crash stop count same rest after failed stops released flaky early
     numbers =
@@ -27,7 +27,7 @@ pub last-notes : (s s1 s2 : SuiteState) (tests front back : List RunningView) (e
     → left ≡ (if e.others_failed then 0 else length back) → s1 ≡ record s { stats = with_failed s.stats (if e.others_failed then back else []) }
     → n1 ≡ old ++ map (skipped_note s) front → n2 ≡ n1 ++ failed_notes s HasNoEnd (if e.others_failed then back else [])
     → s2 ≡ record s1 { stats = with_all_flaky e.flaky_failed s1.stats s1.flaky; flaky = [] } → n3 ≡ n2 ++ flaky_notes s1 e.flaky_failed
-    → n4 ≡ n3 ++ last_disagreement s2
+    → n4 ≡ n3 ++ last_contradiction s2
     → time ≡ option_or s2.said.time s2.time
     → n5 ≡ n4 ++ number_notes s2 record { skipped = s2.skipped + e.skipped + e.nameless; left = left; time = time }
     → n5 ≡ old ++ last_notes s tests

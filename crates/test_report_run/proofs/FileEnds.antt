@@ -6,7 +6,7 @@ use Rattle.test_report_run_notes.specs.Note.{NoteView}
 use Rattle.test_report_run_notes.specs.declared.note.RunEnd.{RunEnd}
 use Rattle.test_report_run.specs.Over.{EarlyEnd, early_notes, nothing_known}
 use Rattle.test_report_run.specs.FileEnd.{begun, command_notes, file_end, file_notes, after_file, held_told, no_event_notes}
-use Rattle.test_report_run.specs.Run.{RunState, Step, all_ended_early, ended_early, is_cancel_note, is_disagreement, is_new_cause, learned, settled, step, tests_in, with_note, without_tests}
+use Rattle.test_report_run.specs.Run.{RunState, Step, all_ended_early, ended_early, is_cancel_note, is_contradiction, is_new_cause, learned, settled, step, tests_in, with_note, without_tests}
 use Rattle.test_report_run.specs.Suite.{SuiteState, cancelled_by, outside_start}
 use Rattle.test_report_run.specs.declared.suite.Suite.{Suite}
 use Rattle.test_report_run.proofs.Runs.{boxed_state}
@@ -71,15 +71,15 @@ count-more p n notes more =
 pub learned-more : (r : RunState) (notes more : List NoteView) → learned (learned r notes) more ≡ learned r (notes ++ more)
 learned-more r notes more =
     let totals = sym (fold-append with_note r.totals notes more) in
-    let lines = count-more is_disagreement r.disagreements notes more in
+    let lines = count-more is_contradiction r.contradictions notes more in
     let causes = count-more is_new_cause r.causes notes more in
     let cancels = count-more is_cancel_note r.cancels notes more in
     let over : RunState = learned r (notes ++ more) in
     let first : RunState = learned (learned r notes) more in
-    ap (λ (t : RunEnd). record r { totals = t; disagreements = first.disagreements; cancels = first.cancels; causes = first.causes }) totals
-    ∙ ap (λ (n : ℕ). record r { totals = over.totals; disagreements = n; cancels = first.cancels; causes = first.causes }) lines
-    ∙ ap (λ (n : ℕ). record r { totals = over.totals; disagreements = over.disagreements; cancels = n; causes = first.causes }) cancels
-    ∙ ap (λ (n : ℕ). record r { totals = over.totals; disagreements = over.disagreements; cancels = over.cancels; causes = n }) causes
+    ap (λ (t : RunEnd). record r { totals = t; contradictions = first.contradictions; cancels = first.cancels; causes = first.causes }) totals
+    ∙ ap (λ (n : ℕ). record r { totals = over.totals; contradictions = n; cancels = first.cancels; causes = first.causes }) lines
+    ∙ ap (λ (n : ℕ). record r { totals = over.totals; contradictions = over.contradictions; cancels = n; causes = first.causes }) cancels
+    ∙ ap (λ (n : ℕ). record r { totals = over.totals; contradictions = over.contradictions; cancels = over.cancels; causes = n }) causes
 
 -- four lists of notes, one after the other
 four-lists : (n0 n1 n2 n3 n4 a b c d : List NoteView) → n0 ≡ [] → n1 ≡ n0 ++ a → n2 ≡ n1 ++ b → n3 ≡ n2 ++ c → n4 ≡ n3 ++ d → n4 ≡ (a ++ b) ++ (c ++ d)

@@ -1,6 +1,6 @@
 -- Kinds of events.
 use Rattle.std.specs.Prelude.{Bool, true, false}
-use Rattle.test_report_events.specs.Event.{EventView, SuiteStarts, SuiteEnds, TestStarts, TestEnds, TestIsSlow, OtherLine, HeadingLine, CargoFails, Prints, DamagedLine, CommandStarts, CommandOver, Cancels, AllEndEarly, ProgramDisagrees}
+use Rattle.test_report_events.specs.Event.{EventView, SuiteStarts, SuiteEnds, TestStarts, TestEnds, TestIsSlow, OtherLine, HeadingLine, CargoFails, Prints, DamagedLine, CommandStarts, CommandOver, Cancels, AllEndEarly, ProgramContradicts}
 
 -- the line is an event of a harness
 abbrev pub is_event : EventView → Bool
@@ -18,7 +18,7 @@ is_event (CommandStarts names) = false
 is_event (CommandOver end) = false
 is_event (Cancels reason) = false
 is_event (AllEndEarly end) = false
-is_event (ProgramDisagrees fault) = false
+is_event (ProgramContradicts fault) = false
 
 -- a heading, an event or a failure comes after all that may say why cargo failed before it
 abbrev pub is_after_report : EventView → Bool
@@ -36,4 +36,4 @@ is_after_report (CommandStarts names) = false
 is_after_report (CommandOver end) = false
 is_after_report (Cancels reason) = false
 is_after_report (AllEndEarly end) = false
-is_after_report (ProgramDisagrees fault) = false
+is_after_report (ProgramContradicts fault) = false

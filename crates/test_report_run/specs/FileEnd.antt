@@ -2,7 +2,7 @@
 use Rattle.std.specs.Prelude.{◌-◌, ◌++◌, ◌==◌, ◌∷◌, ◌||◌, ◌&&◌, [], ℕ, List, Bool, true, false, length, map, nat_lt, not, if◌then◌else◌, drop, slice_get, Option, None, Some}
 use Rattle.std.specs.Option.{option_map_or}
 use Rattle.test_report_events.specs.Event.{BySignal, CommandOver, CommandView, NotStarted, WithError, WithStatus}
-use Rattle.test_report_run_notes.specs.Note.{CargoSays, CargoView, CommandFails, Disagrees, HasNoEvent, NoteView, ended_well, was_not_started}
+use Rattle.test_report_run_notes.specs.Note.{CargoSays, CargoView, CommandFails, Contradicts, HasNoEvent, NoteView, ended_well, was_not_started}
 use Rattle.test_report_run_notes.specs.declared.note.RunEnd.{RunEnd}
 use Rattle.test_report_run.specs.Others.{no_others}
 use Rattle.test_report_run.specs.Over.{nothing_known}
@@ -21,17 +21,17 @@ held_reports r = map (at_end r.has_event) r.held
 abbrev pub held_told : RunState → Step
 held_told r =
     if ended_well r.command then step (record r { held = []; causes = r.causes - length r.held }) []
-    else step (record r { held = [] }) (map (λ report. Disagrees (CargoSays report)) (held_reports r))
+    else step (record r { held = [] }) (map (λ report. Contradicts (CargoSays report)) (held_reports r))
 
 -- the name of the file, if the files of the run have names
 abbrev pub file_name : RunState → Option (List ℕ)
 file_name r = slice_get r.file_names 0
 
--- a file disagrees if it has no event of a harness and nothing failed or disagreed in it, unless its command ended with status 0 or was not started
+-- a file is a contradiction if it has no event of a harness, no failed test and no other contradiction, unless its command ended with status 0 or was not started
 abbrev pub no_event_notes : RunState → List NoteView
 no_event_notes r =
     if not r.has_event && (not (nat_lt r.causes_at_file r.causes) && not (ended_well r.command || was_not_started r.command))
-    then Disagrees (HasNoEvent (file_name r)) ∷ [] else []
+    then Contradicts (HasNoEvent (file_name r)) ∷ [] else []
 
 -- the failures of cargo that are not known yet become known, or were prints
 abbrev pub reports_told : RunState → Step
@@ -44,7 +44,7 @@ file_end r =
     let suites = all_ended_early nothing_known reports.run in
     step suites.run (reports.notes ++ (suites.notes ++ no_event_notes suites.run))
 
--- a command disagrees that could not be started, that ended by a signal, or that ended with a status above 0 if nothing else says why
+-- a command is a contradiction if it could not be started, ended by a signal, or ended with a status above 0 and nothing else says why
 abbrev pub command_fails : ℕ → CommandView → Bool
 command_fails causes (NotStarted error) = true
 command_fails causes (BySignal number) = true
@@ -53,7 +53,7 @@ command_fails causes (WithError code words) = causes == 0
 
 -- what the end of the command says
 abbrev pub command_notes : RunState → List NoteView
-command_notes r = option_map_or (λ end. if command_fails r.causes end then Disagrees (unless_cancelled r (CommandFails end)) ∷ [] else []) r.command []
+command_notes r = option_map_or (λ end. if command_fails r.causes end then Contradicts (unless_cancelled r (CommandFails end)) ∷ [] else []) r.command []
 
 -- what the end of a file makes known
 abbrev pub file_notes : RunState → List NoteView
@@ -83,7 +83,7 @@ after_file r = begun (learned (file_end r).run (file_notes r))
 
 -- the sums and the outcome
 abbrev pub end_of : RunState → RunEnd
-end_of r = ending r.totals r.disagreements r.cancels
+end_of r = ending r.totals r.contradictions r.cancels
 
 -- the run before the end of its last file, when it is known how the command ended that wrote the file, if one did
 abbrev pub with_command : RunState → Option CommandView → RunState

@@ -10,7 +10,7 @@ use Rattle.run_events_stats.specs.declared.stats.RunStats.{RunStats}
 use Rattle.test_report_events.specs.Event.{EarlyEndView}
 use Rattle.test_report_events.specs.declared.program.ProgramEnd.{ProgramEnd}
 use Rattle.test_report_run_notes.specs.Finish.{view_of_finish}
-use Rattle.test_report_run_notes.specs.Note.{CrashView, DisagreementView, Disagrees, EndsEarly, FailureView, Fails, HasCrashed, HasNoEnd, IsFlaky, IsNotRun, IsSkipped, IsStopped, KindView, NoteView, OutcomeView, Passes, SaysOther, StartsOutside, SuiteIs, WasCancelled, failed_of}
+use Rattle.test_report_run_notes.specs.Note.{CrashView, ContradictionView, Contradicts, EndsEarly, FailureView, Fails, HasCrashed, HasNoEnd, IsFlaky, IsNotRun, IsSkipped, IsStopped, KindView, NoteView, OutcomeView, Passes, SaysOther, StartsOutside, SuiteIs, WasCancelled, failed_of}
 use Rattle.test_report_run_notes.specs.declared.finish.Finish.TheVariants as finish
 use Rattle.test_report_run.specs.LastLine.{explanation_of, is_contradicted}
 use Rattle.test_report_run.specs.Others.{OthersView, cause_after, last_prints_from, prints_from}
@@ -150,15 +150,15 @@ number_notes s rest =
     option_map_or (λ name. if nat_lt 0 not_run then IsNotRun name not_run initial ∷ [] else []) (suite_name s) []
     ++ SuiteIs record { name = suite_name s; stats = s.stats; skipped = rest.skipped; not_run = not_run; crashed = s.crashed; time = rest.time } ∷ []
 
--- a suite with this name that ends early disagrees, unless the run is cancelled
-abbrev pub early_disagreement : SuiteState → Option ProgramEnd → List ℕ → DisagreementView
-early_disagreement s end name = option_map_or WasCancelled s.cancel (EndsEarly name end)
+-- a suite with this name that ends early is a contradiction, unless the run is cancelled
+abbrev pub early_contradiction : SuiteState → Option ProgramEnd → List ℕ → ContradictionView
+early_contradiction s end name = option_map_or WasCancelled s.cancel (EndsEarly name end)
 
--- a suite that ends early disagrees if none of its tests crashed, and so do tests that started outside of a suite
-abbrev pub early_disagreements : SuiteState → Option ProgramEnd → ℕ → List NoteView
-early_disagreements s end crashed =
-    option_map_or (λ name. if crashed == 0 then Disagrees (early_disagreement s end name) ∷ [] else []) (suite_name s)
-    (if nat_lt 0 s.started then Disagrees (StartsOutside s.started) ∷ [] else [])
+-- a suite that ends early is a contradiction if none of its tests crashed, and so are tests that started outside of a suite
+abbrev pub early_contradictions : SuiteState → Option ProgramEnd → ℕ → List NoteView
+early_contradictions s end crashed =
+    option_map_or (λ name. if crashed == 0 then Contradicts (early_contradiction s end name) ∷ [] else []) (suite_name s)
+    (if nat_lt 0 s.started then Contradicts (StartsOutside s.started) ∷ [] else [])
 
 -- a suite that ends early counts those of its running tests that crashed, and its flaky tests as passed
 abbrev pub early_state : SuiteState → List RunningView → SuiteState
@@ -175,7 +175,7 @@ early_by others end s crashed stopped =
     crashed_notes s (crash_of others end s (length crashed)) crashed
     ++ (map (stopped_note s) stopped
     ++ (flaky_notes s false
-    ++ (early_disagreements s end (length crashed)
+    ++ (early_contradictions s end (length crashed)
     ++ number_notes (early_state s crashed) record { skipped = s.skipped; left = length stopped; time = s.time })))
 
 -- what becomes known when a suite ends early so while these tests run
@@ -197,12 +197,12 @@ last_state s e tests = record s {
   flaky = [];
 }
 
--- a suite disagrees if its last line says other numbers than those of its tests
-abbrev pub last_disagreement : SuiteState → List NoteView
-last_disagreement s =
+-- a suite is a contradiction if its last line says other numbers than those of its tests
+abbrev pub last_contradiction : SuiteState → List NoteView
+last_contradiction s =
     let said = numbers_of s.said in
     option_map_or (λ name. if is_contradicted said s.stats.passed (failed_of s.stats)
-    then Disagrees (SaysOther name said s.stats.passed (failed_of s.stats)) ∷ [] else []) (suite_name s) []
+    then Contradicts (SaysOther name said s.stats.passed (failed_of s.stats)) ∷ [] else []) (suite_name s) []
 
 -- how many tests of such a suite were skipped, how many were not run, and the time that it took
 abbrev pub rest_of : SuiteState → Explanation → List RunningView → Rest
@@ -223,5 +223,5 @@ last_notes s tests =
     map (skipped_note s) (take e.skipped tests)
     ++ (failed_notes s HasNoEnd (lost e tests)
     ++ (flaky_notes s e.flaky_failed
-    ++ (last_disagreement (last_state s e tests)
+    ++ (last_contradiction (last_state s e tests)
     ++ number_notes (last_state s e tests) (rest_of s e tests))))

@@ -5,11 +5,11 @@ use Rattle.std.specs.List.{count_by, fold, list_any, position, remove, starts_wi
 use Rattle.std.specs.Option.{option_map_or, option_or, unwrap_or}
 use Rattle.std.specs.Str.{bytes_eq}
 use Rattle.run_events_results.specs.declared.results.CancelReason.{CancelReason}
-use Rattle.test_report_events.specs.Event.{AllEndEarly, Cancels, CommandView, EarlyEndView, EventView, ProgramDisagrees, SuiteEndView, SuiteNames, TestEndView, SuiteStarts, SuiteEnds, TestStarts, TestEnds, TestIsSlow, OtherLine, HeadingLine, CargoFails, Prints, DamagedLine, CommandStarts, CommandOver}
+use Rattle.test_report_events.specs.Event.{AllEndEarly, Cancels, CommandView, EarlyEndView, EventView, ProgramContradicts, SuiteEndView, SuiteNames, TestEndView, SuiteStarts, SuiteEnds, TestStarts, TestEnds, TestIsSlow, OtherLine, HeadingLine, CargoFails, Prints, DamagedLine, CommandStarts, CommandOver}
 use Rattle.test_report_events.specs.declared.event.CargoFailure.{CargoFailure}
 use Rattle.test_report_events.specs.declared.event.CargoFailure.TheVariants.{Build, Tests, Run}
 use Rattle.test_report_events.specs.declared.event.TestResult.TheVariants.{Ok, Failed, Ignored}
-use Rattle.test_report_run_notes.specs.Note.{CargoSays, CargoView, CommandFails, DisagreementView, Disagrees, EndsEarly, Fails, FlakyEnds, HasNoEvent, IsDamaged, IsNotRun, IsSkipped, IsStopped, NoteView, OfProgram, OutcomeView, Passes, SaysOther, StartsOutside, StrayEnds, StraySuiteEnds, SuiteIs, TestIs, WasCancelled, cargo_view, command_view, is_new_disagreement}
+use Rattle.test_report_run_notes.specs.Note.{CargoSays, CargoView, CommandFails, ContradictionView, Contradicts, EndsEarly, Fails, FlakyEnds, HasNoEvent, IsDamaged, IsNotRun, IsSkipped, IsStopped, NoteView, OfProgram, OutcomeView, Passes, SaysOther, StartsOutside, StrayEnds, StraySuiteEnds, SuiteIs, TestIs, WasCancelled, cargo_view, command_view, is_new_contradiction}
 use Rattle.test_report_run_notes.specs.declared.note.RunEnd.{RunEnd}
 use Rattle.test_report_run.specs.Ended.{after_end, after_stray, end_notes, stray_notes}
 use Rattle.test_report_run.specs.Events.{is_after_report, is_event}
@@ -53,7 +53,7 @@ pub record RunState : Type 0 where
   pub others : OthersView
   -- the plain text of the prints after the last heading, event or failure of cargo: the longest end of them that fits
   pub recent : List (List ℕ)
-  -- the last failure of cargo that disagrees, until what may say why is read; and those that wait for the end of the command
+  -- the last failure of cargo that is a contradiction, until what may say why is read; and those that wait for the end of the command
   pub reported : Option CargoView
   pub held : List CargoView
   -- the lines are the output of a command, and how it ended
@@ -66,12 +66,12 @@ pub record RunState : Type 0 where
   pub running : List RunningView
   pub tests_started : ℕ
   pub ended : ℕ
-  -- the sums over the suites that are over, and how many lines disagree
+  -- the sums over the suites that are over, and the number of contradictions
   pub totals : RunEnd
-  pub disagreements : ℕ
+  pub contradictions : ℕ
   -- how many of these say that the run was cancelled
   pub cancels : ℕ
-  -- how many tests failed and lines disagree, with the failures of cargo that are not known yet: now, when the file began, and at the last failure of
+  -- the number of failed tests and contradictions, with the failures of cargo that are not known yet: now, when the file began, and at the last failure of
   -- cargo that counted
   pub causes : ℕ
   pub causes_at_file : ℕ
@@ -103,7 +103,7 @@ run_state r = record {
   tests_started = r.running.started;
   ended = r.ended;
   totals = r.totals.end;
-  disagreements = r.disagreements;
+  contradictions = r.contradictions;
   cancels = r.cancels;
   causes = r.causes;
   causes_at_file = r.causes_at_file;
@@ -134,7 +134,7 @@ run_start settings = record {
   tests_started = 0;
   ended = 0;
   totals = no_suites;
-  disagreements = 0;
+  contradictions = 0;
   cancels = 0;
   causes = 0;
   causes_at_file = 0;
@@ -210,7 +210,7 @@ abbrev pub early_end : RunState → EarlyEndView → EarlyEnd
 early_end r e = record { end = e.end; crashed = named_of r e }
 
 -- a contradiction about the end of something, unless the run is cancelled
-abbrev pub unless_cancelled : RunState → DisagreementView → DisagreementView
+abbrev pub unless_cancelled : RunState → ContradictionView → ContradictionView
 unless_cancelled r d = option_map_or WasCancelled r.cancel d
 
 -- the run with one more open suite
@@ -239,9 +239,9 @@ is_above_0 number = option_map_or (nat_lt 0) number false
 abbrev pub counts_tests : SuiteEndView → Bool
 counts_tests e = e.failed_verdict || (is_above_0 e.passed || (is_above_0 e.measured || is_above_0 e.failed))
 
--- a last line of a suite that is not open disagrees if it counts tests
+-- a last line of a suite that is not open is a contradiction if it counts tests
 abbrev pub stray_suite_notes : SuiteEndView → List NoteView
-stray_suite_notes e = if counts_tests e then Disagrees (StraySuiteEnds e.key e.failed_verdict) ∷ [] else []
+stray_suite_notes e = if counts_tests e then Contradicts (StraySuiteEnds e.key e.failed_verdict) ∷ [] else []
 
 -- a last line of the open suite at this position: the suite is over if it has as many last lines as first lines
 abbrev pub ended_at : RunState → SuiteEndView → ℕ → Step
@@ -309,11 +309,11 @@ stray_counted r e =
 abbrev pub stray_test : RunState → TestEndView → List NoteView
 stray_test r e = stray_notes (suite_at r (suite_place r e.name)) (stray_over r e) e
 
--- a test ends that was not running: it counts if it failed or was ignored, and the lines disagree unless it was ignored
+-- a test ends that was not running: it counts if it failed or was ignored, and is a contradiction unless it was ignored
 abbrev pub stray_ends : RunState → TestEndView → Step
 stray_ends r e = elim e.result as (λ _. Step) [
-  | Ok ↦ step r (Disagrees (StrayEnds e.name e.result) ∷ [])
-  | Failed ↦ step (stray_counted r e) (stray_test r e ++ Disagrees (StrayEnds e.name e.result) ∷ [])
+  | Ok ↦ step r (Contradicts (StrayEnds e.name e.result) ∷ [])
+  | Failed ↦ step (stray_counted r e) (stray_test r e ++ Contradicts (StrayEnds e.name e.result) ∷ [])
   | Ignored ↦ step (stray_counted r e) (stray_test r e)
 ]
 
@@ -345,21 +345,21 @@ headed r name path = record r {
   heading = Some (name_by_heading r name path);
 }
 
--- a failed test or a disagreement before it explains a failure of cargo
+-- a failed test or a contradiction before it explains a failure of cargo
 abbrev pub is_explained : RunState → CargoFailure → Bool
 is_explained r Build = false
 is_explained r Tests = nat_lt r.causes_at_cargo r.causes
 is_explained r Run = nat_lt r.causes_at_file r.causes
 
--- a failure of cargo disagrees if no suite is open and nothing explains it
-abbrev pub disagrees : RunState → CargoFailure → Bool
-disagrees r f = length r.suites == 0 && not (is_explained r f)
+-- a failure of cargo is a contradiction if no suite is open and nothing explains it
+abbrev pub contradicts : RunState → CargoFailure → Bool
+contradicts r f = length r.suites == 0 && not (is_explained r f)
 
 -- a failure of cargo says that tests failed, and no line of the file was an event of a harness. Only the first one counts
 abbrev pub lacks_events : RunState → List ℕ → Bool
 lacks_events r line = not r.has_event && (not r.lacked_events && starts_with nat_eq line (codes "error: test failed"))
 
--- the run with a failure of cargo that disagrees. It counts from now on
+-- the run with a failure of cargo that is a contradiction. It counts from now on
 abbrev pub with_report : RunState → List ℕ → RunState
 with_report r line = record r {
   reported = Some (record { line = line; prints = joined r.recent; cause = None; lacks_events = lacks_events r line });
@@ -369,7 +369,7 @@ with_report r line = record r {
 
 -- a failure of cargo
 abbrev pub cargo_fails : RunState → CargoFailure → List ℕ → RunState
-cargo_fails r f line = record (if disagrees r f then with_report r line else r) { others = after_failure r.others }
+cargo_fails r f line = record (if contradicts r f then with_report r line else r) { others = after_failure r.others }
 
 -- a print
 abbrev pub printed : RunState → List ℕ → List ℕ → RunState
@@ -381,7 +381,7 @@ abbrev pub report_told : RunState → Bool → CargoView → Step
 report_told r heard report =
     let whole = record report { cause = r.others.last_cause; lacks_events = report.lacks_events && not heard } in
     if r.of_command then step (record r { reported = None; held = r.held ++ whole ∷ [] }) []
-    else step (record r { reported = None }) (Disagrees (CargoSays whole) ∷ [])
+    else step (record r { reported = None }) (Contradicts (CargoSays whole) ∷ [])
 
 -- the same, if there is such a failure
 abbrev pub settled : RunState → Bool → Step
@@ -402,12 +402,12 @@ told r OtherLine = step r []
 told r (HeadingLine name path) = step (headed r name path) []
 told r (CargoFails f line plain) = step (cargo_fails r f plain) []
 told r (Prints line plain) = step (printed r line plain) []
-told r (DamagedLine text) = step r (Disagrees (IsDamaged (cut text)) ∷ [])
+told r (DamagedLine text) = step r (Contradicts (IsDamaged (cut text)) ∷ [])
 told r (CommandStarts names) = step (record r { of_command = true; names = names }) []
 told r (CommandOver end) = step (record r { command = Some end }) []
 told r (Cancels reason) = step (record r { cancel = Some reason }) []
 told r (AllEndEarly end) = all_ended_early (early_end r end) r
-told r (ProgramDisagrees fault) = step r (Disagrees (unless_cancelled r (OfProgram fault)) ∷ [])
+told r (ProgramContradicts fault) = step r (Contradicts (unless_cancelled r (OfProgram fault)) ∷ [])
 
 -- the test failed
 abbrev pub has_failed : OutcomeView → Bool
@@ -420,20 +420,20 @@ has_failed (Fails failure) = true
 abbrev pub is_failed_test : NoteView → Bool
 is_failed_test (TestIs t) = has_failed t.outcome
 is_failed_test (FlakyEnds t) = false
-is_failed_test (Disagrees d) = false
+is_failed_test (Contradicts d) = false
 is_failed_test (IsNotRun suite n of) = false
 is_failed_test (SuiteIs s) = false
 
--- the note is a disagreement
-abbrev pub is_disagreement : NoteView → Bool
-is_disagreement (TestIs t) = false
-is_disagreement (FlakyEnds t) = false
-is_disagreement (Disagrees d) = true
-is_disagreement (IsNotRun suite n of) = false
-is_disagreement (SuiteIs s) = false
+-- the note is a contradiction
+abbrev pub is_contradiction : NoteView → Bool
+is_contradiction (TestIs t) = false
+is_contradiction (FlakyEnds t) = false
+is_contradiction (Contradicts d) = true
+is_contradiction (IsNotRun suite n of) = false
+is_contradiction (SuiteIs s) = false
 
--- the disagreement says that the run was cancelled
-abbrev pub is_cancellation : DisagreementView → Bool
+-- the contradiction says that the run was cancelled
+abbrev pub is_cancellation : ContradictionView → Bool
 is_cancellation (WasCancelled reason) = true
 is_cancellation (EndsEarly suite end) = false
 is_cancellation (SaysOther suite said passed failed) = false
@@ -448,21 +448,21 @@ is_cancellation (OfProgram fault) = false
 
 -- the note says that the run was cancelled
 abbrev pub is_cancel_note : NoteView → Bool
-is_cancel_note (Disagrees d) = is_cancellation d
+is_cancel_note (Contradicts d) = is_cancellation d
 is_cancel_note (TestIs t) = false
 is_cancel_note (FlakyEnds t) = false
 is_cancel_note (IsNotRun suite n of) = false
 is_cancel_note (SuiteIs s) = false
 
--- the note is of a failed test, or is a disagreement
+-- the note is of a failed test, or is a contradiction
 abbrev pub is_cause : NoteView → Bool
-is_cause note = is_failed_test note || is_disagreement note
+is_cause note = is_failed_test note || is_contradiction note
 
--- the note is of a failed test, or of a disagreement that is counted when it becomes known
+-- the note is of a failed test, or of a contradiction that is counted when it becomes known
 abbrev pub is_new_cause : NoteView → Bool
 is_new_cause (TestIs t) = has_failed t.outcome
 is_new_cause (FlakyEnds t) = false
-is_new_cause (Disagrees d) = is_new_disagreement d
+is_new_cause (Contradicts d) = is_new_contradiction d
 is_new_cause (IsNotRun suite n of) = false
 is_new_cause (SuiteIs s) = false
 
@@ -470,7 +470,7 @@ is_new_cause (SuiteIs s) = false
 abbrev pub with_note : RunEnd → NoteView → RunEnd
 with_note e (TestIs t) = e
 with_note e (FlakyEnds t) = e
-with_note e (Disagrees d) = e
+with_note e (Contradicts d) = e
 with_note e (IsNotRun suite n of) = e
 with_note e (SuiteIs s) = with_suite e s
 
@@ -478,7 +478,7 @@ with_note e (SuiteIs s) = with_suite e s
 abbrev pub learned : RunState → List NoteView → RunState
 learned r notes = record r {
   totals = fold with_note r.totals notes;
-  disagreements = r.disagreements + count_by is_disagreement notes;
+  contradictions = r.contradictions + count_by is_contradiction notes;
   cancels = r.cancels + count_by is_cancel_note notes;
   causes = r.causes + count_by is_new_cause notes;
 }
@@ -499,7 +499,7 @@ marked r (CommandStarts names) = r
 marked r (CommandOver end) = r
 marked r (Cancels reason) = r
 marked r (AllEndEarly end) = r
-marked r (ProgramDisagrees fault) = r
+marked r (ProgramContradicts fault) = r
 
 -- the run after a line, before its notes are counted, and what the line makes known
 abbrev pub told_at : RunState → EventView → Step

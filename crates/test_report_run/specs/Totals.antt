@@ -38,9 +38,9 @@ with_suite e s = record {
   outcome = combined e.outcome (suite_outcome s);
 }
 
--- the end of a run with this number of disagreements, of which `cancels` say that it was cancelled
+-- the end of a run with this number of contradictions, of which `cancels` say that it was cancelled
 abbrev pub ending : RunEnd → ℕ → ℕ → RunEnd
-ending e disagreements cancels =
-    if nat_lt cancels disagreements then record e { outcome = outcome.Failed step.Test }
-    else if nat_lt 0 disagreements then record e { outcome = combined e.outcome (outcome.Cancelled step.Test) }
+ending e contradictions cancels =
+    if nat_lt cancels contradictions then record e { outcome = outcome.Failed step.Test }
+    else if nat_lt 0 contradictions then record e { outcome = combined e.outcome (outcome.Cancelled step.Test) }
     else e

@@ -9,7 +9,7 @@ use std::alloc::{AllocError, AllocFailed};
 #[derive(Clone, Copy)]
 pub enum RunError {
     /// A number of the run does not fit its counter: a number of tests, suites, prints, headings, or failed tests and
-    /// disagreements does not fit `usize`, or a sum of numbers in last lines of suites does not fit 128 bits.
+    /// contradictions does not fit `usize`, or a sum of numbers in last lines of suites does not fit 128 bits.
     CounterFull,
 
     /// There was not enough memory.

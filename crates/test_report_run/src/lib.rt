@@ -25,9 +25,9 @@
 //! ```
 #![tactic(auto)]
 
+mod contradictions;
 mod counted;
 mod cuts;
-mod disagreements;
 pub mod early;
 mod ended;
 pub mod error;

@@ -8,11 +8,11 @@ ghost use Rattle.test_report_run.specs.Over as spec;
 ghost use Rattle.test_report_run.specs.Running.{running_test_view, running_view};
 ghost use Rattle.test_report_run.specs.Suite.{flaky_view, over_view, state_of, test_note};
 
-use crate::disagreements::push_disagreement;
+use crate::contradictions::push_contradiction;
 use crate::early::Ending;
 use crate::error::{RunError, one_more};
 use crate::flaky::FlakyTests;
-use crate::last_line::{Explanation, disagrees, explained};
+use crate::last_line::{Explanation, contradicts, explained};
 use crate::others::Others;
 use crate::running::RunningTest;
 use crate::suite::{FlakyTest, OverTest, Suite};
@@ -21,7 +21,7 @@ use std::rc::Rc;
 use test_report_events::program::ProgramEnd;
 use test_report_run_notes::finish::Finish;
 use test_report_run_notes::note::{
-    Crash, Disagreement, Failure, FailureKind, NotRun, Note, SuiteNote, TestOutcome, failed_count,
+    Contradiction, Crash, Failure, FailureKind, NotRun, Note, SuiteNote, TestOutcome, failed_count,
 };
 
 /// The numbers of a suite that its finished tests do not give.
@@ -268,7 +268,7 @@ impl Suite {
         self.push_finished(Finish::Failed, over, TestOutcome::Failed(failure), notes)
     }
 
-    /// Adds the disagreement of a suite that ends early, if there is one.
+    /// Adds the contradiction of a suite that ends early, if there is one.
     fn push_early_end(
         &self,
         end: Option<ProgramEnd>,
@@ -276,19 +276,19 @@ impl Suite {
         notes: &mut Vec<Note>,
     ) -> Result<(), AllocError>
         ensures { OnOk result (map note_view notes.new.items ≡ map note_view notes.old.items
-            ++ spec.early_disagreements (state_of self.now) end crashed) }
+            ++ spec.early_contradictions (state_of self.now) end crashed) }
     {
         match self.name.shown()? {
             Some(suite) if crashed == 0 => {
-                let disagreement = match self.cancel {
-                    Some(reason) => Disagreement::Cancelled(reason),
-                    None => Disagreement::EndedEarly { suite, end },
+                let contradiction = match self.cancel {
+                    Some(reason) => Contradiction::Cancelled(reason),
+                    None => Contradiction::EndedEarly { suite, end },
                 };
-                push_disagreement(disagreement, notes)
+                push_contradiction(contradiction, notes)
             }
             None if self.started > 0 => {
                 let started = self.started;
-                push_disagreement(Disagreement::OutsideSuite { started }, notes)
+                push_contradiction(Contradiction::OutsideSuite { started }, notes)
             }
             _ => Ok(()),
         }
@@ -403,23 +403,23 @@ impl Suite {
         Ok(0)
     }
 
-    /// Adds a disagreement if the last line contradicts the tests. Fails if memory runs out, or the number of passed
+    /// Adds a contradiction if the last line contradicts the tests. Fails if memory runs out, or the number of passed
     /// tests that the last lines say does not fit.
     fn push_last_line(&self, notes: &mut Vec<Note>) -> Result<(), RunError>
         ensures tells { OnOk result (map note_view notes.new.items ≡ map note_view notes.old.items
-            ++ spec.last_disagreement (state_of self.now)) }
+            ++ spec.last_contradiction (state_of self.now)) }
     {
         let said = self.said.numbers()?;
         let (passed, failed) = (self.stats.passed, failed_count(&self.stats));
         match self.name.shown()? {
-            Some(suite) if disagrees(said, passed, failed) => {
-                let disagreement = Disagreement::LastLine {
+            Some(suite) if contradicts(said, passed, failed) => {
+                let contradiction = Contradiction::LastLine {
                     suite,
                     said,
                     passed,
                     failed,
                 };
-                push_disagreement(disagreement, notes)?;
+                push_contradiction(contradiction, notes)?;
                 Ok(())
             }
             _ => Ok(()),

@@ -4,7 +4,7 @@ ghost use Rattle.std.specs.Prelude.{◌≡◌, ◌↔◌, ◌⊎◌, ◌++◌, �
 ghost use Rattle.run_events_stats.specs.declared.outcome.run_outcome.RunOutcome.TheVariants as outcomes;
 ghost use Rattle.test_report_events.specs.Content.{events_of};
 ghost use Rattle.test_report_events.specs.Event.{event_view};
-ghost use Rattle.test_report_run_notes.specs.Note.{Disagrees, command_view, disagreement_view, is_new_disagreement, note_view, text_view};
+ghost use Rattle.test_report_run_notes.specs.Note.{Contradicts, command_view, contradiction_view, is_new_contradiction, note_view, text_view};
 ghost use Rattle.test_report_run.specs.FileEnd as ends;
 ghost use Rattle.test_report_run.specs.Run as spec;
 ghost use Rattle.test_report_run.specs.Run.{run_settings, run_state};
@@ -17,7 +17,7 @@ pub mod progress;
 mod suites;
 mod test_lines;
 
-use crate::disagreements::push_disagreement;
+use crate::contradictions::push_contradiction;
 use crate::early::Ending;
 use crate::error::{RunError, one_more};
 use crate::headings::Headings;
@@ -37,7 +37,7 @@ use std::rc::Rc;
 use test_report_events::event::Event;
 use test_report_events::line::Line;
 use test_report_run_notes::note::{
-    CargoReport, CommandEnd, Disagreement, Note, RunEnd, TestOutcome,
+    CargoReport, CommandEnd, Contradiction, Note, RunEnd, TestOutcome,
 };
 
 /// A test run, up to the line that was passed last. Pass each line to `on_line`, and end the run by `finish`.
@@ -64,7 +64,7 @@ pub struct TestRun {
     /// The plain text of the prints after the last heading, event or failure of cargo.
     recent: LongestEnd,
 
-    /// The last failure of cargo that disagrees, until what may say why is read.
+    /// The last failure of cargo that is a contradiction, until what may say why is read.
     reported: Option<CargoReport>,
 
     /// The failures of cargo that wait for the end of the command.
@@ -85,12 +85,12 @@ pub struct TestRun {
     running: Running,
     ended: usize,
     totals: Totals,
-    disagreements: usize,
+    contradictions: usize,
 
-    /// How many disagreements say that the run was cancelled.
+    /// How many contradictions say that the run was cancelled.
     cancels: usize,
 
-    /// The number of failed tests and disagreements until now, until the file began, and until the last
+    /// The number of failed tests and contradictions until now, until the file began, and until the last
     /// failure of cargo outside of a suite. They decide whether a failure of cargo is explained. Failures of cargo
     /// are counted before they become known.
     causes: usize,
@@ -124,7 +124,7 @@ impl Drop for TestRun {
             running: _,
             ended: _,
             totals: _,
-            disagreements: _,
+            contradictions: _,
             cancels: _,
             causes: _,
             causes_at_file: _,
@@ -179,7 +179,7 @@ impl TestRun {
             running: Running::new(alloc),
             ended: 0,
             totals: Totals::new(),
-            disagreements: 0,
+            contradictions: 0,
             cancels: 0,
             causes: 0,
             causes_at_file: 0,
@@ -208,7 +208,7 @@ impl TestRun {
     }
 
     /// Takes the next event, and returns the notes that it makes known. `on_line` calls it for each event of a
-    /// line. The notes of a suite are in this order: its tests without an end, its flaky tests, disagreements,
+    /// line. The notes of a suite are in this order: its tests without an end, its flaky tests, contradictions,
     /// tests that did not run, and the numbers of the suite.
     ///
     /// Fails if a number of the run does not fit its counter. After an error the run must not be used: a part of the event
@@ -301,11 +301,11 @@ impl TestRun {
     pub fn end(&self) -> RunEnd
         ensures { result ≡ ends.end_of (run_state self.now) }
     {
-        self.totals.end(self.disagreements, self.cancels)
+        self.totals.end(self.contradictions, self.cancels)
     }
 
-    /// Adds a disagreement if no line of the file is an event of a harness and nothing failed or disagreed in it,
-    /// unless its command ended with status 0 or was not started.
+    /// Adds a contradiction if the file has no event of a harness, no failed test and no other contradiction, unless
+    /// its command ended with status 0 or was not started.
     fn push_no_event(&self, notes: &mut Vec<Note>) -> Result<(), AllocError>
         ensures { OnOk result (map note_view notes.new.items ≡ map note_view notes.old.items
             ++ ends.no_event_notes (run_state self.now)) }
@@ -315,7 +315,7 @@ impl TestRun {
             return Ok(());
         }
         let file = first_name(&self.file_names)?;
-        push_disagreement(Disagreement::NoEvent { file }, notes)
+        push_contradiction(Contradiction::NoEvent { file }, notes)
     }
 
     /// Adds notes to the sums. Fails if a sum does not fit.
@@ -341,22 +341,22 @@ impl TestRun {
                 }
                 Ok(())
             }
-            Note::Disagreement(disagreement) => self.learn_disagreement(disagreement),
+            Note::Contradiction(contradiction) => self.learn_contradiction(contradiction),
             Note::Flaky(_) | Note::NotRun(_) => Ok(()),
             Note::Suite(suite) => self.totals.add(suite),
         }
     }
 
-    /// Counts a disagreement. Fails if a sum does not fit.
-    fn learn_disagreement(&mut self, disagreement: &Disagreement) -> Result<(), RunError>
+    /// Counts a contradiction. Fails if a sum does not fit.
+    fn learn_contradiction(&mut self, contradiction: &Contradiction) -> Result<(), RunError>
         ensures learns { OnOk result (run_state self.new
-            ≡ spec.learned (run_state self.old) (Disagrees (disagreement_view disagreement.now) ∷ [])) }
+            ≡ spec.learned (run_state self.old) (Contradicts (contradiction_view contradiction.now) ∷ [])) }
     {
-        self.disagreements = one_more(self.disagreements)?;
-        if matches!(disagreement, Disagreement::Cancelled(_)) {
+        self.contradictions = one_more(self.contradictions)?;
+        if matches!(contradiction, Contradiction::Cancelled(_)) {
             self.cancels = one_more(self.cancels)?;
         }
-        if is_new(disagreement) {
+        if is_new(contradiction) {
             self.causes = one_more(self.causes)?;
         }
         Ok(())
@@ -373,13 +373,13 @@ fn first_name(names: &VecDeque<String>) -> Result<Option<String>, AllocError>
     }
 }
 
-/// Returns true if a disagreement is counted among the causes when it becomes known. A failure of cargo is counted at
+/// Returns true if a contradiction is counted among the causes when it becomes known. A failure of cargo is counted at
 /// its line, and that a file has no event explains nothing.
-fn is_new(disagreement: &Disagreement) -> bool
-    ensures { result ≡ is_new_disagreement (disagreement_view disagreement.now) }
+fn is_new(contradiction: &Contradiction) -> bool
+    ensures { result ≡ is_new_contradiction (contradiction_view contradiction.now) }
 {
     !matches!(
-        disagreement,
-        Disagreement::Cargo(_) | Disagreement::NoEvent { .. }
+        contradiction,
+        Contradiction::Cargo(_) | Contradiction::NoEvent { .. }
     )
 }

@@ -10,8 +10,8 @@ use Rattle.test_report_run_notes.specs.declared.note.CargoReport.{CargoReport}
 use Rattle.test_report_run_notes.specs.declared.note.CommandEnd.{CommandEnd}
 use Rattle.test_report_run_notes.specs.declared.note.CommandEnd.TheVariants as command
 use Rattle.test_report_run_notes.specs.declared.note.Crash.{Crash}
-use Rattle.test_report_run_notes.specs.declared.note.Disagreement.{Disagreement}
-use Rattle.test_report_run_notes.specs.declared.note.Disagreement.TheVariants as disagreement
+use Rattle.test_report_run_notes.specs.declared.note.Contradiction.{Contradiction}
+use Rattle.test_report_run_notes.specs.declared.note.Contradiction.TheVariants as contradiction
 use Rattle.test_report_run_notes.specs.declared.note.Failure.{Failure}
 use Rattle.test_report_run_notes.specs.declared.note.FailureKind.{FailureKind}
 use Rattle.test_report_run_notes.specs.declared.note.FailureKind.TheVariants as kind
@@ -80,21 +80,21 @@ pub record CargoView : Type 0 where
   pub lacks_events : Bool
 
 -- a contradiction between lines
-pub data DisagreementView : Type 0 where
+pub data ContradictionView : Type 0 where
   -- the name of the suite, and how its program ended, if that is known
-  EndsEarly : List ℕ → Option ProgramEnd → DisagreementView
-  SaysOther : List ℕ → SaidNumbers → ℕ → ℕ → DisagreementView
-  StrayEnds : List ℕ → TestResult → DisagreementView
-  StraySuiteEnds : Option (List ℕ) → Bool → DisagreementView
-  StartsOutside : ℕ → DisagreementView
-  CargoSays : CargoView → DisagreementView
-  IsDamaged : List ℕ → DisagreementView
+  EndsEarly : List ℕ → Option ProgramEnd → ContradictionView
+  SaysOther : List ℕ → SaidNumbers → ℕ → ℕ → ContradictionView
+  StrayEnds : List ℕ → TestResult → ContradictionView
+  StraySuiteEnds : Option (List ℕ) → Bool → ContradictionView
+  StartsOutside : ℕ → ContradictionView
+  CargoSays : CargoView → ContradictionView
+  IsDamaged : List ℕ → ContradictionView
   -- the name of the file, if the files of the run have names
-  HasNoEvent : Option (List ℕ) → DisagreementView
-  CommandFails : CommandView → DisagreementView
-  OfProgram : ProgramFaultView → DisagreementView
+  HasNoEvent : Option (List ℕ) → ContradictionView
+  CommandFails : CommandView → ContradictionView
+  OfProgram : ProgramFaultView → ContradictionView
   -- the run was cancelled for this reason, and something did not end as it would have
-  WasCancelled : CancelReason → DisagreementView
+  WasCancelled : CancelReason → ContradictionView
 
 -- a suite that is over
 pub record SuiteNoteView : Type 0 where
@@ -110,7 +110,7 @@ pub data NoteView : Type 0 where
   TestIs : TestNoteView → NoteView
   -- a test passed after several attempts, and how it counts is not known yet
   FlakyEnds : TestNoteView → NoteView
-  Disagrees : DisagreementView → NoteView
+  Contradicts : ContradictionView → NoteView
   -- the name of a suite, how many of its tests were not run, and how many were to run
   IsNotRun : List ℕ → ℕ → ℕ → NoteView
   SuiteIs : SuiteNoteView → NoteView
@@ -179,7 +179,7 @@ command_view (command.Signal number) = BySignal number
 command_view (command.Status code) = WithStatus code
 command_view (command.Error code words) = WithError code (string_bytes words)
 
--- why the lines of programs disagree
+-- why the lines of programs contradict each other
 abbrev pub fault_view : ProgramFault → ProgramFaultView
 fault_view (fault.Unexplained program end) = EndsUnexplained (string_bytes program) end
 fault_view (fault.NoTests program) = RunsNoTest (string_bytes program)
@@ -187,19 +187,19 @@ fault_view (fault.NoEnd program) = NeverEnds (string_bytes program)
 fault_view (fault.NotStarted end) = EndsUnstarted end
 fault_view fault.CutOff = IsCutOff
 
--- what a disagreement says
-abbrev pub disagreement_view : Disagreement → DisagreementView
-disagreement_view (disagreement.EndedEarly suite end) = EndsEarly (string_bytes suite.value) end
-disagreement_view (disagreement.LastLine suite said passed failed) = SaysOther (string_bytes suite.value) said passed failed
-disagreement_view (disagreement.StrayEnd name outcome) = StrayEnds (string_bytes name) outcome
-disagreement_view (disagreement.StraySuiteEnd key failed) = StraySuiteEnds (text_view key) failed
-disagreement_view (disagreement.OutsideSuite started) = StartsOutside started
-disagreement_view (disagreement.Cargo report) = CargoSays (cargo_view report)
-disagreement_view (disagreement.Damaged text) = IsDamaged (string_bytes text)
-disagreement_view (disagreement.NoEvent file) = HasNoEvent (text_view file)
-disagreement_view (disagreement.Command end) = CommandFails (command_view end)
-disagreement_view (disagreement.Program fault) = OfProgram (fault_view fault)
-disagreement_view (disagreement.Cancelled reason) = WasCancelled reason
+-- what a contradiction says
+abbrev pub contradiction_view : Contradiction → ContradictionView
+contradiction_view (contradiction.EndedEarly suite end) = EndsEarly (string_bytes suite.value) end
+contradiction_view (contradiction.LastLine suite said passed failed) = SaysOther (string_bytes suite.value) said passed failed
+contradiction_view (contradiction.StrayEnd name outcome) = StrayEnds (string_bytes name) outcome
+contradiction_view (contradiction.StraySuiteEnd key failed) = StraySuiteEnds (text_view key) failed
+contradiction_view (contradiction.OutsideSuite started) = StartsOutside started
+contradiction_view (contradiction.Cargo report) = CargoSays (cargo_view report)
+contradiction_view (contradiction.Damaged text) = IsDamaged (string_bytes text)
+contradiction_view (contradiction.NoEvent file) = HasNoEvent (text_view file)
+contradiction_view (contradiction.Command end) = CommandFails (command_view end)
+contradiction_view (contradiction.Program fault) = OfProgram (fault_view fault)
+contradiction_view (contradiction.Cancelled reason) = WasCancelled reason
 
 -- what the note of a suite says
 abbrev pub suite_view : SuiteNote → SuiteNoteView
@@ -216,7 +216,7 @@ suite_view s = record {
 abbrev pub note_view : Note → NoteView
 note_view (note.Test test) = TestIs (test_view test)
 note_view (note.Flaky test) = FlakyEnds (test_view test)
-note_view (note.Disagreement d) = Disagrees (disagreement_view d)
+note_view (note.Contradiction d) = Contradicts (contradiction_view d)
 note_view (note.NotRun n) = IsNotRun (string_bytes n.suite.value) n.not_run n.initial_run_count
 note_view (note.Suite suite) = SuiteIs (suite_view suite)
 
@@ -236,19 +236,19 @@ was_not_started (Some (BySignal number)) = false
 was_not_started (Some (WithStatus code)) = false
 was_not_started (Some (WithError code words)) = false
 
--- a disagreement is counted when it becomes known. Failures of cargo are counted at their lines, and that a file has no event explains nothing
-abbrev pub is_new_disagreement : DisagreementView → Bool
-is_new_disagreement (EndsEarly suite end) = true
-is_new_disagreement (SaysOther suite said passed failed) = true
-is_new_disagreement (StrayEnds name how) = true
-is_new_disagreement (StraySuiteEnds key failed) = true
-is_new_disagreement (StartsOutside n) = true
-is_new_disagreement (CargoSays report) = false
-is_new_disagreement (IsDamaged text) = true
-is_new_disagreement (HasNoEvent file) = false
-is_new_disagreement (CommandFails end) = true
-is_new_disagreement (OfProgram fault) = true
-is_new_disagreement (WasCancelled reason) = true
+-- a contradiction is counted when it becomes known. Failures of cargo are counted at their lines, and that a file has no event explains nothing
+abbrev pub is_new_contradiction : ContradictionView → Bool
+is_new_contradiction (EndsEarly suite end) = true
+is_new_contradiction (SaysOther suite said passed failed) = true
+is_new_contradiction (StrayEnds name how) = true
+is_new_contradiction (StraySuiteEnds key failed) = true
+is_new_contradiction (StartsOutside n) = true
+is_new_contradiction (CargoSays report) = false
+is_new_contradiction (IsDamaged text) = true
+is_new_contradiction (HasNoEvent file) = false
+is_new_contradiction (CommandFails end) = true
+is_new_contradiction (OfProgram fault) = true
+is_new_contradiction (WasCancelled reason) = true
 
 -- how many tests failed
 abbrev pub failed_of : RunStats → ℕ

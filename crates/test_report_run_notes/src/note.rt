@@ -20,7 +20,7 @@ pub enum Note {
 
     /// Lines of the run contradict each other, a damaged line says a failure, a file has no event, or the command
     /// of the run failed.
-    Disagreement(Disagreement),
+    Contradiction(Contradiction),
 
     /// Some tests of a suite did not run.
     NotRun(NotRun),
@@ -35,7 +35,7 @@ impl Drop for Note {
         match self {
             Note::Test(_)
             | Note::Flaky(_)
-            | Note::Disagreement(_)
+            | Note::Contradiction(_)
             | Note::NotRun(_)
             | Note::Suite(_) => {}
         }
@@ -192,7 +192,7 @@ impl Drop for Crash {
 
 /// A contradiction between lines of a run. A damaged line that says a failure, a file without an event of a
 /// harness, and the end of a command that failed count as contradictions, too.
-pub enum Disagreement {
+pub enum Contradiction {
     /// A suite has no last line, and none of its tests crashed.
     EndedEarly {
         /// The name of the suite.
@@ -250,14 +250,14 @@ pub enum Disagreement {
         text: String,
     },
 
-    /// No line of a file is an event of a harness, and nothing failed or disagreed in it.
+    /// A file has no event of a harness, no failed test and no other contradiction.
     NoEvent {
         /// The name of the file, if the files of the run have names.
         file: Option<String>,
     },
 
-    /// The command of the run could not be started, ended by a signal, or ended with a status above 0 although
-    /// nothing failed or disagreed.
+    /// The command of the run could not be started, ended by a signal, or ended with a status above 0 although no
+    /// test failed and there was no other contradiction.
     Command(CommandEnd),
 
     /// The lines of programs contradict each other, or a program did not end as it should have.
@@ -268,28 +268,28 @@ pub enum Disagreement {
     Cancelled(CancelReason),
 }
 
-impl Drop for Disagreement {
+impl Drop for Contradiction {
     fn drop(self) {
         match self {
-            Disagreement::EndedEarly { suite: _, end: _ }
-            | Disagreement::LastLine {
+            Contradiction::EndedEarly { suite: _, end: _ }
+            | Contradiction::LastLine {
                 suite: _,
                 said: _,
                 passed: _,
                 failed: _,
             }
-            | Disagreement::StrayEnd { name: _, result: _ }
-            | Disagreement::StraySuiteEnd {
+            | Contradiction::StrayEnd { name: _, result: _ }
+            | Contradiction::StraySuiteEnd {
                 key: _,
                 failed_verdict: _,
             }
-            | Disagreement::OutsideSuite { started: _ }
-            | Disagreement::Cargo(_)
-            | Disagreement::Damaged { text: _ }
-            | Disagreement::NoEvent { file: _ }
-            | Disagreement::Command(_)
-            | Disagreement::Program(_)
-            | Disagreement::Cancelled(_) => {}
+            | Contradiction::OutsideSuite { started: _ }
+            | Contradiction::Cargo(_)
+            | Contradiction::Damaged { text: _ }
+            | Contradiction::NoEvent { file: _ }
+            | Contradiction::Command(_)
+            | Contradiction::Program(_)
+            | Contradiction::Cancelled(_) => {}
         }
     }
 }

@@ -1,9 +1,9 @@
-//! Runs of a command, call by call: how its output and its end disagree.
+//! Runs of a command, call by call: how its output and its end contradict each other.
 
 use deodarsieve_run::Line;
 use deodarsieve_run::SuiteNames;
 use deodarsieve_run::TestRun;
-use deodarsieve_run::{CargoReport, CommandEnd, Disagreement, Note};
+use deodarsieve_run::{CargoReport, CommandEnd, Contradiction, Note};
 
 /// The time in microseconds from which on a test is slow.
 const SLOW: u64 = 60_000_000;
@@ -18,38 +18,38 @@ Caused by:
   process didn't exit successfully: `a-0123456789abcdef` (exit status: 101)
 ";
 
-/// Returns the disagreements among some notes.
-fn disagreements(notes: Vec<Note>) -> Vec<Disagreement> {
+/// Returns the contradictions among some notes.
+fn contradictions(notes: Vec<Note>) -> Vec<Contradiction> {
     notes
         .into_iter()
         .filter_map(|note| match note {
-            Note::Disagreement(disagreement) => Some(disagreement),
+            Note::Contradiction(contradiction) => Some(contradiction),
             _ => None,
         })
         .collect()
 }
 
-/// Passes lines to a run, and returns the disagreements that become known with them.
-fn pass_lines(run: &mut TestRun, text: &str) -> Vec<Disagreement> {
+/// Passes lines to a run, and returns the contradictions that become known with them.
+fn pass_lines(run: &mut TestRun, text: &str) -> Vec<Contradiction> {
     let mut notes = Vec::new();
     for line in text.lines() {
         notes.extend(run.on_line(&Line::read(line.as_bytes())).unwrap());
     }
-    disagreements(notes)
+    contradictions(notes)
 }
 
-/// Returns the disagreements that become known at the end of a command with this output.
-fn command_ends(output: &str, end: &CommandEnd) -> Vec<Disagreement> {
+/// Returns the contradictions that become known at the end of a command with this output.
+fn command_ends(output: &str, end: &CommandEnd) -> Vec<Contradiction> {
     let mut run = TestRun::new(SLOW);
     run.on_command_started(SuiteNames::new());
     pass_lines(&mut run, output);
-    disagreements(run.finish(Some(end.clone()), false).unwrap().notes)
+    contradictions(run.finish(Some(end.clone()), false).unwrap().notes)
 }
 
-/// Asserts that the only disagreement is that a test program refused an option.
-fn assert_refused(disagreements: &[Disagreement]) {
-    let [Disagreement::Cargo(report)] = disagreements else {
-        panic!("{disagreements:?}");
+/// Asserts that the only contradiction is that a test program refused an option.
+fn assert_refused(contradictions: &[Contradiction]) {
+    let [Contradiction::Cargo(report)] = contradictions else {
+        panic!("{contradictions:?}");
     };
     let CargoReport {
         line,
@@ -74,7 +74,7 @@ fn a_failure_of_cargo_waits_for_the_end_of_the_command() {
     assert!(pass_lines(&mut run, REFUSED).is_empty());
     assert!(pass_lines(&mut run, "   Doc-tests a\n").is_empty());
     let end = CommandEnd::Status { code: 101 };
-    assert_refused(&disagreements(run.finish(Some(end), false).unwrap().notes));
+    assert_refused(&contradictions(run.finish(Some(end), false).unwrap().notes));
 }
 
 #[test]
@@ -88,28 +88,28 @@ fn a_failure_of_cargo_becomes_known_at_the_next_heading() {
     let mut run = TestRun::new(SLOW);
     assert!(pass_lines(&mut run, REFUSED).is_empty());
     assert_refused(&pass_lines(&mut run, "   Doc-tests a\n"));
-    assert!(disagreements(run.end_file().unwrap()).is_empty());
+    assert!(contradictions(run.end_file().unwrap()).is_empty());
 }
 
 #[test]
-fn a_command_that_was_not_started_disagrees() {
+fn a_command_that_was_not_started_is_a_contradiction() {
     let error = "No such file or directory (os error 2)";
     let end = CommandEnd::NotStarted {
         error: String::from(error),
     };
     let found = command_ends("", &end);
-    let [Disagreement::Command(CommandEnd::NotStarted { error: said })] = &found[..] else {
+    let [Contradiction::Command(CommandEnd::NotStarted { error: said })] = &found[..] else {
         panic!("{found:?}");
     };
     assert_eq!(said, error);
 }
 
 #[test]
-fn a_command_that_a_signal_ended_disagrees() {
+fn a_command_that_a_signal_ended_is_a_contradiction() {
     let found = command_ends(REFUSED, &CommandEnd::Signal { number: 9 });
     let [
-        cargo @ Disagreement::Cargo(_),
-        Disagreement::Command(CommandEnd::Signal { number }),
+        cargo @ Contradiction::Cargo(_),
+        Contradiction::Command(CommandEnd::Signal { number }),
     ] = &found[..]
     else {
         panic!("{found:?}");
@@ -119,12 +119,12 @@ fn a_command_that_a_signal_ended_disagrees() {
 }
 
 #[test]
-fn a_status_above_0_disagrees_if_nothing_says_why() {
+fn a_status_above_0_is_a_contradiction_if_nothing_says_why() {
     let end = CommandEnd::Status { code: 5 };
     let found = command_ends("printed\n", &end);
     let [
-        Disagreement::NoEvent { file: None },
-        Disagreement::Command(CommandEnd::Status { code }),
+        Contradiction::NoEvent { file: None },
+        Contradiction::Command(CommandEnd::Status { code }),
     ] = &found[..]
     else {
         panic!("{found:?}");

@@ -46,8 +46,8 @@ fn write_notes(notes: &[Note], output: &mut impl Write) -> io::Result<()> {
                     write_failure(test, failure, output)?;
                 }
             }
-            Note::Disagreement(disagreement) => {
-                writeln!(output, "contradiction: {disagreement:?}")?
+            Note::Contradiction(contradiction) => {
+                writeln!(output, "contradiction: {contradiction:?}")?
             }
             Note::Flaky(_) | Note::NotRun(_) | Note::Suite(_) => {}
         }

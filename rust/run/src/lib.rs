@@ -98,7 +98,7 @@
 //! of one, wherever the line is.
 //!
 //! ```
-//! use deodarsieve_run::{Disagreement, Line, Note, ProgramFault, ProgramRun, RunError, TestRun};
+//! use deodarsieve_run::{Contradiction, Line, Note, ProgramFault, ProgramRun, RunError, TestRun};
 //!
 //! let lines = r#"{"type":"command","event":"started"}
 //! {"type":"program","event":"started","name":"ledger"}
@@ -113,7 +113,7 @@
 //! let mut faults = Vec::new();
 //! for line in lines.lines() {
 //!     for note in run.on_line(&Line::read(line.as_bytes()))? {
-//!         if let Note::Disagreement(Disagreement::Program(ProgramFault::Unexplained {
+//!         if let Note::Contradiction(Contradiction::Program(ProgramFault::Unexplained {
 //!             program,
 //!             end,
 //!         })) = note
@@ -133,12 +133,12 @@
 //! |---|---|
 //! | [`Note::Test`] | A test passed, was skipped, was stopped or failed ([`TestOutcome`]). A [`FailureKind`] says how it failed: by its line, by its time limit, in a crash, without a last line, or as a flaky test that counts as failed |
 //! | [`Note::Flaky`] | A test passed after several attempts. Its `Note::Test` follows when its suite is over |
-//! | [`Note::Disagreement`] | Lines contradict each other, or something failed that is no test ([`Disagreement`]). In a cancelled run [`Disagreement::Cancelled`] replaces each one about an end |
+//! | [`Note::Contradiction`] | Lines contradict each other, or something failed that is no test ([`Contradiction`]). In a cancelled run [`Contradiction::Cancelled`] replaces each one about an end |
 //! | [`Note::NotRun`] | Some tests of a suite did not run |
 //! | [`Note::Suite`] | A suite is over: its numbers. Each file ends with one that has no name: the numbers of the tests outside of suites, even if there are none |
 //!
 //! Notes come as early as they are known: a failed test is returned by the line that says so. At the end
-//! of a suite its notes have this order: tests without an end, flaky tests, disagreements, tests that did
+//! of a suite its notes have this order: tests without an end, flaky tests, contradictions, tests that did
 //! not run, numbers. [`Finished`] has the rest: the last notes, the sums of all suites ([`RunEnd`]), and
 //! the exit status.
 //!
@@ -146,8 +146,8 @@
 //!
 //! | [`RunOutcome`] | exit status | when |
 //! |---|---|---|
-//! | `Failed` | 1 | A test failed, or there is a disagreement other than [`Disagreement::Cancelled`] |
-//! | `Cancelled` | 1 | Some tests did not run or were stopped, or there is a [`Disagreement::Cancelled`], and nothing else is wrong |
+//! | `Failed` | 1 | A test failed, or there is a contradiction other than [`Contradiction::Cancelled`] |
+//! | `Cancelled` | 1 | Some tests did not run or were stopped, or there is a [`Contradiction::Cancelled`], and nothing else is wrong |
 //! | `NoTestsRun` | 1, or 0 if `no_tests_pass` is true | Nothing is wrong, and no test passed |
 //! | `Success` | 0 | Nothing is wrong, and a test passed |
 //!
@@ -168,7 +168,7 @@
 //!   tests. Each command ended with status 0, and each other file has an event.
 //! - The totals are the counts of the notes. Only `skipped` can be greater, because a last line can count
 //!   ignored tests that have no line of their own.
-//! - A run that does not succeed has a reason among its notes: a failed test, a disagreement or a test
+//! - A run that does not succeed has a reason among its notes: a failed test, a contradiction or a test
 //!   that did not run. Otherwise no test passed.
 //!
 //! This is not proved:
@@ -193,7 +193,7 @@
 //! - The run: [`TestRun`], [`ProgramRun`], [`Finished`], [`CommandEnd`], [`SuiteNames`], [`EarlyEnd`],
 //!   [`RunNumbers`], [`FirstRunning`], [`RunError`], [`exit_status`].
 //! - Notes: [`Note`], [`TestNote`], [`TestOutcome`], [`Failure`], [`FailureKind`], [`Crash`],
-//!   [`Disagreement`], [`SaidNumbers`], [`CargoReport`], [`ProgramFault`], [`NotRun`], [`SuiteNote`].
+//!   [`Contradiction`], [`SaidNumbers`], [`CargoReport`], [`ProgramFault`], [`NotRun`], [`SuiteNote`].
 //! - The end: [`RunEnd`], [`RunOutcome`], [`RunFailureStep`], [`RunStats`], [`CancelReason`],
 //!   [`failed_count`].
 //! - For the levels of a reporter in [`deodarsieve`]: [`Finish`], [`finished_test`], [`FinishedTest`].
@@ -254,8 +254,8 @@ pub use events::program::{ProgramEnd, ProgramLine, ProgramStart};
 pub use events::time::microseconds;
 pub use notes::finish::{Finish, finished_test};
 pub use notes::note::{
-    CargoReport, CommandEnd, Crash, Disagreement, Failure, FailureKind, NotRun, Note, ProgramFault,
-    RunEnd, SaidNumbers, SuiteNote, TestNote, TestOutcome, failed_count,
+    CargoReport, CommandEnd, Contradiction, Crash, Failure, FailureKind, NotRun, Note,
+    ProgramFault, RunEnd, SaidNumbers, SuiteNote, TestNote, TestOutcome, failed_count,
 };
 pub use programs::run::ProgramRun;
 pub use run::early::EarlyEnd;

@@ -193,7 +193,7 @@ fn a_run_that_does_not_succeed_has_a_reason() {
         notes.extend(finished.notes);
         let is_reason = |note: &Note| match note {
             Note::Test(test) => matches!(test.outcome, TestOutcome::Failed(_)),
-            Note::Disagreement(_) | Note::NotRun(_) => true,
+            Note::Contradiction(_) | Note::NotRun(_) => true,
             Note::Flaky(_) | Note::Suite(_) => false,
         };
         let has_reason = notes.iter().any(is_reason);

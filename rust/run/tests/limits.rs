@@ -5,7 +5,7 @@ use std::rc::Rc;
 
 use crate::common::{SLOW, finish, take};
 use deodarsieve_run::{
-    CounterFull, Crash, Disagreement, FailureKind, Finish, FinishedTest, Note, RunError, RunStats,
+    Contradiction, CounterFull, Crash, FailureKind, Finish, FinishedTest, Note, RunError, RunStats,
     SuiteNames, TestRun, failed_count, finished_test,
 };
 
@@ -27,7 +27,7 @@ fn numbers_of_lines_are_added_and_never_wrap() {
     assert_eq!(run.numbers().announced, 3 * u128::from(GREATEST));
     let notes = take(&mut run, &line_of_suite("ok", "passed", GREATEST).repeat(3));
     let [
-        Note::Disagreement(Disagreement::LastLine { said, .. }),
+        Note::Contradiction(Contradiction::LastLine { said, .. }),
         Note::NotRun(not_run),
         Note::Suite(suite),
     ] = &notes[..]

@@ -3,7 +3,7 @@
 
 use crate::note_lines::{lines_of, read};
 use deodarsieve_run::{
-    Crash, Disagreement, FailureKind, Note, RunFailureStep, RunOutcome, RunStats, TestNote,
+    Contradiction, Crash, FailureKind, Note, RunFailureStep, RunOutcome, RunStats, TestNote,
     TestOutcome,
 };
 
@@ -108,7 +108,7 @@ fn a_package_that_does_not_compile_is_a_failure_of_cargo() {
             "cargo: error: could not compile `broken` (lib test) due to 1 previous error",
         ]
     );
-    let Note::Disagreement(Disagreement::Cargo(report)) = &notes[0] else {
+    let Note::Contradiction(Contradiction::Cargo(report)) = &notes[0] else {
         panic!("cargo reports a failure");
     };
     assert!(
@@ -141,7 +141,7 @@ fn a_failed_test_program_without_events_says_so() {
     let (notes, _) =
         read("error: test failed, to rerun pass `--lib`\n\nCaused by:\n  no such file\n");
     let [
-        Note::Disagreement(Disagreement::Cargo(report)),
+        Note::Contradiction(Contradiction::Cargo(report)),
         Note::Suite(_),
     ] = &notes[..]
     else {
@@ -363,7 +363,7 @@ fn a_damaged_line_is_cut_at_two_hundred_bytes() {
     let damaged = format!("{:300}{{\"type\": \"test\", \"event\": \"failed\"", "x");
     let (notes, _) = read(&format!("{{ \"type\": \"report\" }}\n{damaged}\n"));
     let [
-        Note::Disagreement(Disagreement::Damaged { text }),
+        Note::Contradiction(Contradiction::Damaged { text }),
         Note::Suite(_),
     ] = &notes[..]
     else {

@@ -165,7 +165,7 @@ fn the_end_of_a_command_is_part_of_the_run() {
 }
 
 #[test]
-fn a_status_that_a_failed_test_explains_is_no_disagreement() {
+fn a_status_that_a_failed_test_explains_is_no_contradiction() {
     let (notes, outcome, status) = read_command(FAILING, CommandEnd::Status { code: 101 });
     assert_eq!(
         lines_of(&notes),

@@ -3,7 +3,7 @@
 use crate::common::{SLOW, finish, take};
 use crate::note_lines::{lines_of, read};
 use deodarsieve_run::{
-    CancelReason, Crash, Disagreement, EarlyEnd, FailureKind, Finished, Line, Note, ProgramEnd,
+    CancelReason, Contradiction, Crash, EarlyEnd, FailureKind, Finished, Line, Note, ProgramEnd,
     ProgramFault, ProgramLine, ProgramRun, RunFailureStep, RunOutcome, SuiteNames, TestOutcome,
     TestRun,
 };
@@ -579,7 +579,7 @@ fn a_runner_can_end_all_suites_itself() {
         .expect("the counters have room");
     assert!(matches!(
         notes[..],
-        [Note::Disagreement(Disagreement::Program(
+        [Note::Contradiction(Contradiction::Program(
             ProgramFault::CutOff
         ))]
     ));

@@ -3,7 +3,7 @@
 ghost use Rattle.std.specs.Prelude.{◌≡◌, List, OnOk, map, option_map};
 ghost use Rattle.std.specs.Option.{option_map_or};
 ghost use Rattle.std.specs.Str.Lines.{lines};
-ghost use Rattle.test_report_events.specs.Event.{AllEndEarly, Cancels, ProgramDisagrees};
+ghost use Rattle.test_report_events.specs.Event.{AllEndEarly, Cancels, ProgramContradicts};
 ghost use Rattle.test_report_events.specs.Program.{CommandEnds, program_view, start_view};
 ghost use Rattle.test_report_programs.specs.Lines as spec;
 ghost use Rattle.test_report_programs.specs.Lines.{programs_state};
@@ -228,7 +228,7 @@ impl ProgramRun {
         notes: &mut Vec<Note>,
     ) -> Result<(), RunError>
         ensures { OnOk result (spec.step (programs_state self.new) (map note_view notes.new.items)
-            ≡ spec.told (spec.step (programs_state self.old) (map note_view notes.old.items)) (ProgramDisagrees (fault_view fault))) }
+            ≡ spec.told (spec.step (programs_state self.old) (map note_view notes.old.items)) (ProgramContradicts (fault_view fault))) }
     {
         let told = self.run.on_program_fault(alloc, fault)?;
         keep(&mut self.program, false, told, notes)?;

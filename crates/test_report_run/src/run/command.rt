@@ -3,19 +3,19 @@
 ghost use Rattle.std.specs.Prelude.{◌≡◌, ◌++◌, ◌||◌, OnOk, map, option_map};
 ghost use Rattle.test_report_events.specs.Event.{Cancels, CommandStarts};
 ghost use Rattle.test_report_run_notes.specs.Note as note;
-ghost use Rattle.test_report_run_notes.specs.Note.{CargoSays, Disagrees, cargo_view, command_view, note_view};
+ghost use Rattle.test_report_run_notes.specs.Note.{CargoSays, Contradicts, cargo_view, command_view, note_view};
 ghost use Rattle.test_report_run.specs.FileEnd as ends;
 ghost use Rattle.test_report_run.specs.Run as spec;
 ghost use Rattle.test_report_run.specs.Run.{run_state};
 ghost use Rattle.test_report_run.specs.SuiteNames.{names_of};
 
-use crate::disagreements::push_disagreement;
+use crate::contradictions::push_contradiction;
 use crate::error::RunError;
 use crate::run::TestRun;
 use crate::suite_names::SuiteNames;
 use run_events_results::results::CancelReason;
 use std::alloc::{AllocError, Global};
-use test_report_run_notes::note::{CargoReport, CommandEnd, Disagreement, Note};
+use test_report_run_notes::note::{CargoReport, CommandEnd, Contradiction, Note};
 
 impl TestRun {
     /// Notes that the next lines, up to the end of the file, are the output of a command. Failures that cargo reports in
@@ -65,7 +65,7 @@ impl TestRun {
         }
     }
 
-    /// Adds a disagreement if the command failed and nothing says why, and counts it. Fails if memory runs out, or
+    /// Adds a contradiction if the command failed and nothing says why, and counts it. Fails if memory runs out, or
     /// a sum does not fit.
     pub(crate) fn end_command(&mut self, notes: &mut Vec<Note>) -> Result<(), RunError>
         ensures takes { OnOk result (record (run_state self.new) { command = (run_state self.old).command }
@@ -77,7 +77,7 @@ impl TestRun {
             return Ok(());
         };
         if command_fails(self.causes, &end) {
-            self.push_contradiction(Disagreement::Command(end), notes)
+            self.push_end_contradiction(Contradiction::Command(end), notes)
         } else {
             Ok(())
         }
@@ -103,24 +103,24 @@ pub(crate) fn says_more(command: &Option<CommandEnd>) -> bool
     )
 }
 
-/// Appends failures of cargo that disagree. `has_event` is true if a line of the file is an event.
+/// Appends failures of cargo that are contradictions. `has_event` is true if a line of the file is an event.
 fn push_reports(
     reports: Vec<CargoReport>,
     has_event: bool,
     notes: &mut Vec<Note>,
 ) -> Result<(), AllocError>
     ensures { OnOk result (map note_view notes.new.items ≡ map note_view notes.old.items
-        ++ map (λ report. Disagrees (CargoSays report)) (map (ends.at_end has_event) (map cargo_view reports.items))) }
+        ++ map (λ report. Contradicts (CargoSays report)) (map (ends.at_end has_event) (map cargo_view reports.items))) }
 {
     for mut report in reports {
         report.lacks_events = report.lacks_events && !has_event;
-        push_disagreement(Disagreement::Cargo(report), notes)?;
+        push_contradiction(Contradiction::Cargo(report), notes)?;
     }
     Ok(())
 }
 
-/// Returns true if a command could not be started, ended by a signal, or ended with a status above 0 although nothing
-/// failed or disagreed. `causes` is the number of failed tests and disagreements.
+/// Returns true if a command could not be started, ended by a signal, or ended with a status above 0 although `causes` is
+/// 0. `causes` is the number of failed tests and contradictions.
 fn command_fails(causes: usize, end: &CommandEnd) -> bool
     ensures { result ≡ ends.command_fails causes (command_view end.now) }
 {

@@ -4,22 +4,22 @@ ghost use Rattle.std.specs.List.{starts_with};
 ghost use Rattle.std.specs.Map.{lookup};
 ghost use Rattle.std.specs.Option.{unwrap_or};
 ghost use Rattle.std.specs.Prelude.{◌≡◌, ◌<◌, ◌++◌, ◌∷◌, ◌&&◌, [], IfOk, OnOk, codes, map, nat_eq, not, option_and_then, option_map, string_bytes};
-ghost use Rattle.test_report_run_notes.specs.Note.{Disagrees, IsDamaged, note_view};
+ghost use Rattle.test_report_run_notes.specs.Note.{Contradicts, IsDamaged, note_view};
 ghost use Rattle.test_report_run.specs.Prints.{cut};
 ghost use Rattle.test_report_run.specs.Run as spec;
 ghost use Rattle.test_report_run.specs.Run.{run_state};
 ghost use Rattle.test_report_run.specs.SuiteNames.{names_of};
 ghost use Rattle.std.specs.Str.{bytes_eq};
 
+use crate::contradictions::push_contradiction;
 use crate::cuts::shortened;
-use crate::disagreements::push_disagreement;
 use crate::error::{RunError, one_more};
 use crate::run::TestRun;
 use crate::suite_names::SuiteNames;
 use std::alloc::{AllocError, Global};
 use std::rc::Rc;
 use test_report_events::event::CargoFailure;
-use test_report_run_notes::note::{CargoReport, Disagreement, Note};
+use test_report_run_notes::note::{CargoReport, Contradiction, Note};
 
 /// The front of the line in which cargo says that tests failed.
 const TESTS_FAILED: &[u8] = b"error: test failed";
@@ -55,8 +55,8 @@ impl TestRun {
         Ok(())
     }
 
-    /// Takes a line in which cargo or nextest reports a failure. If it disagrees, it counts from now on. Fails if
-    /// memory runs out, or the number of failed tests and disagreements does not fit.
+    /// Takes a line in which cargo or nextest reports a failure. If it is a contradiction, it counts from now on. Fails
+    /// if memory runs out, or the number of failed tests and contradictions does not fit.
     pub(crate) fn on_cargo_failed(
         &mut self,
         alloc: Global,
@@ -65,9 +65,9 @@ impl TestRun {
     ) -> Result<(), RunError>
         ensures takes { OnOk result (run_state self.new ≡ spec.cargo_fails (run_state self.old) failure plain.now) }
     {
-        let disagrees = self.disagrees(failure);
+        let contradicts = self.contradicts(failure);
         self.others.on_failure(alloc)?;
-        if disagrees {
+        if contradicts {
             let lacks_events = lacks_events(self.has_event, self.lacked_events, plain);
             self.causes = one_more(self.causes)?;
             self.reported = Some(CargoReport {
@@ -81,10 +81,10 @@ impl TestRun {
         Ok(())
     }
 
-    /// Returns true if no suite is open, and no failed test or earlier disagreement explains this failure of cargo
+    /// Returns true if no suite is open, and no failed test or earlier contradiction explains this failure of cargo
     /// or nextest. A failed build is never explained.
-    fn disagrees(&self, failure: CargoFailure) -> bool
-        ensures { result ≡ spec.disagrees (run_state self.now) failure }
+    fn contradicts(&self, failure: CargoFailure) -> bool
+        ensures { result ≡ spec.contradicts (run_state self.now) failure }
     {
         let explained = match failure {
             CargoFailure::Build => false,
@@ -110,7 +110,7 @@ impl TestRun {
             self.held.push(report)?;
             Ok(())
         } else {
-            push_disagreement(Disagreement::Cargo(report), notes)
+            push_contradiction(Contradiction::Cargo(report), notes)
         }
     }
 }
@@ -148,15 +148,15 @@ fn known_name<'a>(names: &'a SuiteNames, path: Option<&str>) -> Option<&'a str>
     names.get(path?)
 }
 
-/// Adds the disagreement of a damaged line that says a failure.
+/// Adds the contradiction of a damaged line that says a failure.
 pub(crate) fn push_damaged(
     alloc: Global,
     text: &str,
     notes: &mut Vec<Note>,
 ) -> Result<(), AllocError>
     ensures { OnOk result (map note_view notes.new.items ≡ map note_view notes.old.items
-        ++ Disagrees (IsDamaged (cut text.now)) ∷ []) }
+        ++ Contradicts (IsDamaged (cut text.now)) ∷ []) }
 {
     let text = String::from_str(alloc, shortened(text))?;
-    push_disagreement(Disagreement::Damaged { text }, notes)
+    push_contradiction(Contradiction::Damaged { text }, notes)
 }

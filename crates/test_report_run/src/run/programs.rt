@@ -3,14 +3,14 @@
 ghost use Rattle.std.specs.Prelude.{◌≡◌, ◌++◌, ◌∷◌, [], IfOk, None, OnOk, Some, if◌then◌else◌, map};
 ghost use Rattle.std.specs.List.{list_any};
 ghost use Rattle.std.specs.Option.{option_map_or};
-ghost use Rattle.test_report_events.specs.Event.{AllEndEarly, ProgramDisagrees};
-ghost use Rattle.test_report_run_notes.specs.Note.{Disagrees, WasCancelled, disagreement_view, fault_view, note_view};
+ghost use Rattle.test_report_events.specs.Event.{AllEndEarly, ProgramContradicts};
+ghost use Rattle.test_report_run_notes.specs.Note.{Contradicts, WasCancelled, contradiction_view, fault_view, note_view};
 ghost use Rattle.test_report_run.specs.Over.{early_end_of, early_view, is_among};
 ghost use Rattle.test_report_run.specs.Run as spec;
 ghost use Rattle.test_report_run.specs.Run.{run_state};
 ghost use Rattle.test_report_run.specs.Running.{tests_of};
 
-use crate::disagreements::push_disagreement;
+use crate::contradictions::push_contradiction;
 use crate::early::{EarlyEnd, Ending};
 use crate::error::RunError;
 use crate::run::TestRun;
@@ -18,7 +18,7 @@ use crate::running::Running;
 use crate::suite::Suite;
 use run_events_results::results::CancelReason;
 use std::alloc::Global;
-use test_report_run_notes::note::{Disagreement, Note, ProgramFault};
+use test_report_run_notes::note::{Contradiction, Note, ProgramFault};
 
 impl TestRun {
     /// Ends all open suites early, and the tests outside of a suite, as at the end of the program whose tests run. `end` is
@@ -43,8 +43,8 @@ impl TestRun {
         Ok(notes)
     }
 
-    /// Notes that the lines of programs disagree. Returns the note of that, which says that the run was cancelled if it
-    /// was.
+    /// Notes that the lines of programs contradict each other. Returns the note of that, which says that the run was
+    /// cancelled if it was.
     ///
     /// Fails if a number of the run does not fit its counter. After an error the run must not be used.
     pub fn on_program_fault(
@@ -53,30 +53,30 @@ impl TestRun {
         fault: ProgramFault,
     ) -> Result<Vec<Note>, RunError>
         ensures tells { IfOk result (λ notes. map note_view notes.items
-            ≡ spec.notes_at (run_state self.old) (ProgramDisagrees (fault_view fault))) }
+            ≡ spec.notes_at (run_state self.old) (ProgramContradicts (fault_view fault))) }
         ensures takes { OnOk result (run_state self.new
-            ≡ spec.after (run_state self.old) (ProgramDisagrees (fault_view fault))) }
+            ≡ spec.after (run_state self.old) (ProgramContradicts (fault_view fault))) }
     {
         let mut notes = Vec::new(alloc);
-        self.push_contradiction(Disagreement::Program(fault), &mut notes)?;
+        self.push_end_contradiction(Contradiction::Program(fault), &mut notes)?;
         Ok(notes)
     }
 
     /// Adds a contradiction about the end of something, or that the run was cancelled, and counts it. Fails if memory
     /// runs out, or a sum does not fit.
-    pub(crate) fn push_contradiction(
+    pub(crate) fn push_end_contradiction(
         &mut self,
-        disagreement: Disagreement,
+        contradiction: Contradiction,
         notes: &mut Vec<Note>,
     ) -> Result<(), RunError>
         ensures takes { OnOk result (run_state self.new ≡ spec.learned (run_state self.old)
-            (Disagrees (spec.unless_cancelled (run_state self.old) (disagreement_view disagreement)) ∷ [])) }
+            (Contradicts (spec.unless_cancelled (run_state self.old) (contradiction_view contradiction)) ∷ [])) }
         ensures tells { OnOk result (map note_view notes.new.items ≡ map note_view notes.old.items
-            ++ Disagrees (spec.unless_cancelled (run_state self.old) (disagreement_view disagreement)) ∷ []) }
+            ++ Contradicts (spec.unless_cancelled (run_state self.old) (contradiction_view contradiction)) ∷ []) }
     {
-        let disagreement = unless_cancelled(self.cancel, disagreement);
-        self.learn_disagreement(&disagreement)?;
-        push_disagreement(disagreement, notes)?;
+        let contradiction = unless_cancelled(self.cancel, contradiction);
+        self.learn_contradiction(&contradiction)?;
+        push_contradiction(contradiction, notes)?;
         Ok(())
     }
 
@@ -126,11 +126,11 @@ fn ending(running: &Running, early: EarlyEnd) -> Ending
 }
 
 /// Returns a contradiction about the end of something, or that the run was cancelled. `cancel` is the reason, if it was.
-fn unless_cancelled(cancel: Option<CancelReason>, disagreement: Disagreement) -> Disagreement
-    ensures { disagreement_view result ≡ option_map_or WasCancelled cancel (disagreement_view disagreement) }
+fn unless_cancelled(cancel: Option<CancelReason>, contradiction: Contradiction) -> Contradiction
+    ensures { contradiction_view result ≡ option_map_or WasCancelled cancel (contradiction_view contradiction) }
 {
     match cancel {
-        Some(reason) => Disagreement::Cancelled(reason),
-        None => disagreement,
+        Some(reason) => Contradiction::Cancelled(reason),
+        None => contradiction,
     }
 }

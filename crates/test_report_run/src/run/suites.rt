@@ -9,14 +9,14 @@ ghost use Rattle.test_report_run.specs.Run as spec;
 ghost use Rattle.test_report_run.specs.Run.{run_state};
 ghost use Rattle.test_report_run.specs.Suite.{cancelled_by, has_key, joined_by, state_of, with_line};
 
-use crate::disagreements::push_disagreement;
+use crate::contradictions::push_contradiction;
 use crate::early::Ending;
 use crate::error::RunError;
 use crate::run::TestRun;
 use crate::suite::Suite;
 use std::alloc::{AllocError, Global};
 use test_report_events::event::{SuiteEnd, SuiteKey};
-use test_report_run_notes::note::{Disagreement, Note};
+use test_report_run_notes::note::{Contradiction, Note};
 
 impl TestRun {
     /// Takes the first line of a suite.
@@ -221,7 +221,7 @@ fn wide(count: Option<u64>) -> Option<u128>
     count.map(u128::from)
 }
 
-/// Adds a disagreement if the last line of a suite that is not open counts tests. `key` is the key in the line.
+/// Adds a contradiction if the last line of a suite that is not open counts tests. `key` is the key in the line.
 fn push_stray_end(
     key: Option<String>,
     end: SuiteEnd<'_>,
@@ -233,8 +233,8 @@ fn push_stray_end(
 {
     if counts_tests(end) {
         let failed_verdict = end.failed_verdict;
-        push_disagreement(
-            Disagreement::StraySuiteEnd {
+        push_contradiction(
+            Contradiction::StraySuiteEnd {
                 key,
                 failed_verdict,
             },

@@ -3,19 +3,19 @@
 ghost use Rattle.std.specs.Prelude.{◌≡◌, ◌<◌, ◌+◌, ◌++◌, ◌∷◌, ◌||◌, [], IfOk, OnOk, false, map, nat_le};
 ghost use Rattle.std.specs.Option.{option_map_or};
 ghost use Rattle.test_report_events.specs.Event.{TestEnds, test_end_view};
-ghost use Rattle.test_report_run_notes.specs.Note.{Disagrees, StrayEnds, note_view};
+ghost use Rattle.test_report_run_notes.specs.Note.{Contradicts, StrayEnds, note_view};
 ghost use Rattle.test_report_run.specs.Run as spec;
 ghost use Rattle.test_report_run.specs.Run.{run_state};
 ghost use Rattle.test_report_run.specs.Running.{running_test_view};
 
-use crate::disagreements::push_disagreement;
+use crate::contradictions::push_contradiction;
 use crate::error::{RunError, one_more};
 use crate::run::TestRun;
 use crate::running::RunningTest;
 use crate::suite::OverTest;
 use std::alloc::{AllocError, Global};
 use test_report_events::event::{TestDetails, TestResult};
-use test_report_run_notes::note::{Disagreement, Note};
+use test_report_run_notes::note::{Contradiction, Note};
 
 impl TestRun {
     /// Takes the start of a test. Fails if memory runs out, or a number of the run does not fit.
@@ -174,7 +174,7 @@ impl TestRun {
     }
 
     /// Takes the end of a test that is not running. The test is counted unless it passed. The end is a
-    /// disagreement unless the test was ignored.
+    /// contradiction unless the test was ignored.
     fn on_stray_end(
         &mut self,
         alloc: Global,
@@ -257,7 +257,7 @@ fn is_long(time: Option<u64>, least: u64) -> bool
     }
 }
 
-/// Adds the disagreement of a test that ends and is not running.
+/// Adds the contradiction of a test that ends and is not running.
 fn push_stray_end(
     alloc: Global,
     name: &str,
@@ -265,8 +265,8 @@ fn push_stray_end(
     notes: &mut Vec<Note>,
 ) -> Result<(), AllocError>
     ensures { OnOk result (map note_view notes.new.items ≡ map note_view notes.old.items
-        ++ Disagrees (StrayEnds name.now end) ∷ []) }
+        ++ Contradicts (StrayEnds name.now end) ∷ []) }
 {
     let name = String::from_str(alloc, name)?;
-    push_disagreement(Disagreement::StrayEnd { name, result: end }, notes)
+    push_contradiction(Contradiction::StrayEnd { name, result: end }, notes)
 }

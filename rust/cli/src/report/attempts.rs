@@ -36,7 +36,7 @@ fn outputs_of(test: &TestNote) -> Option<AttemptOutputs<'_>> {
 fn test_of(note: &Note) -> Option<&TestNote> {
     match note {
         Note::Test(test) | Note::Flaky(test) => Some(test),
-        Note::Disagreement(_) | Note::NotRun(_) | Note::Suite(_) => None,
+        Note::Contradiction(_) | Note::NotRun(_) | Note::Suite(_) => None,
     }
 }
 

@@ -57,7 +57,7 @@ impl EarlierRun {
                     self.add(suite_of(test), shown_name(test).to_string(), result);
                 }
             }
-            Note::Flaky(_) | Note::Disagreement(_) | Note::NotRun(_) | Note::Suite(_) => {}
+            Note::Flaky(_) | Note::Contradiction(_) | Note::NotRun(_) | Note::Suite(_) => {}
         }
     }
 }

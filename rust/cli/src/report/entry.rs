@@ -6,7 +6,7 @@ use crate::report::failure::{FailureTexts, ShownFailure};
 use crate::report::options::Options;
 use crate::report::problem::Problem;
 use crate::report::stopped::StoppedTests;
-use deodarsieve_run::{Disagreement, Note, SuiteNote, TestNote, TestOutcome};
+use deodarsieve_run::{Contradiction, Note, SuiteNote, TestNote, TestOutcome};
 
 /// A note of a run, or what a build that failed makes known, with what the forms show of it.
 pub(crate) enum Entry<'a> {
@@ -60,9 +60,9 @@ impl<'a> Entry<'a> {
                 }
             },
             Note::Flaky(test) => Entry::Flaky(PassedTest { test, failed }),
-            Note::Disagreement(Disagreement::Cancelled(_)) => return None,
-            Note::Disagreement(disagreement) => {
-                let problem = Problem::of_disagreement(disagreement, stopped, options.output);
+            Note::Contradiction(Contradiction::Cancelled(_)) => return None,
+            Note::Contradiction(contradiction) => {
+                let problem = Problem::of_contradiction(contradiction, stopped, options.output);
                 Entry::Problem(problem)
             }
             Note::NotRun(not_run) => {

@@ -334,7 +334,7 @@ pub(crate) fn failed_test(note: &Note) -> Option<(&TestNote, &Failure)> {
             TestOutcome::Failed(failure) => Some((test, failure)),
             TestOutcome::Passed { .. } | TestOutcome::Skipped { .. } | TestOutcome::Stopped => None,
         },
-        Note::Flaky(_) | Note::Disagreement(_) | Note::NotRun(_) | Note::Suite(_) => None,
+        Note::Flaky(_) | Note::Contradiction(_) | Note::NotRun(_) | Note::Suite(_) => None,
     }
 }
 

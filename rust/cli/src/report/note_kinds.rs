@@ -1,12 +1,12 @@
 //! The kinds of notes that a report treats in its own way.
 
-use deodarsieve_run::{Disagreement, Note, TestOutcome};
+use deodarsieve_run::{Contradiction, Note, TestOutcome};
 
 /// Returns true if a note comes after the others of its line: tests that were not run, and the numbers of a suite.
 pub(super) fn comes_last(note: &Note) -> bool {
     match note {
         Note::NotRun(_) | Note::Suite(_) => true,
-        Note::Test(_) | Note::Flaky(_) | Note::Disagreement(_) => false,
+        Note::Test(_) | Note::Flaky(_) | Note::Contradiction(_) => false,
     }
 }
 
@@ -14,21 +14,21 @@ pub(super) fn comes_last(note: &Note) -> bool {
 pub(super) fn is_failure(note: &Note) -> bool {
     match note {
         Note::Test(test) => matches!(test.outcome, TestOutcome::Failed(_)),
-        Note::Disagreement(_) => !is_cancellation(note),
+        Note::Contradiction(_) => !is_cancellation(note),
         Note::Flaky(_) | Note::NotRun(_) | Note::Suite(_) => false,
     }
 }
 
 /// Returns true if a note says that the run was cancelled, and that something did not end as it would have.
 pub(super) fn is_cancellation(note: &Note) -> bool {
-    matches!(note, Note::Disagreement(Disagreement::Cancelled(_)))
+    matches!(note, Note::Contradiction(Contradiction::Cancelled(_)))
 }
 
 /// Returns true for a note of which a build that failed says more: no line is an event, or how the command ended.
 pub(super) fn is_said_by_build(note: &Note) -> bool {
     matches!(
         note,
-        Note::Disagreement(Disagreement::NoEvent { .. } | Disagreement::Command(_))
+        Note::Contradiction(Contradiction::NoEvent { .. } | Contradiction::Command(_))
     )
 }
 
@@ -37,18 +37,18 @@ pub(super) fn is_said_by_build(note: &Note) -> bool {
 pub(super) fn ends_part(note: &Note) -> bool {
     match note {
         Note::Suite(_) => true,
-        Note::Disagreement(disagreement) => match disagreement {
-            Disagreement::Cargo(_) | Disagreement::NoEvent { .. } | Disagreement::Command(_) => {
+        Note::Contradiction(contradiction) => match contradiction {
+            Contradiction::Cargo(_) | Contradiction::NoEvent { .. } | Contradiction::Command(_) => {
                 true
             }
-            Disagreement::EndedEarly { .. }
-            | Disagreement::LastLine { .. }
-            | Disagreement::StrayEnd { .. }
-            | Disagreement::StraySuiteEnd { .. }
-            | Disagreement::OutsideSuite { .. }
-            | Disagreement::Damaged { .. }
-            | Disagreement::Program(_)
-            | Disagreement::Cancelled(_) => false,
+            Contradiction::EndedEarly { .. }
+            | Contradiction::LastLine { .. }
+            | Contradiction::StrayEnd { .. }
+            | Contradiction::StraySuiteEnd { .. }
+            | Contradiction::OutsideSuite { .. }
+            | Contradiction::Damaged { .. }
+            | Contradiction::Program(_)
+            | Contradiction::Cancelled(_) => false,
         },
         Note::Test(_) | Note::Flaky(_) | Note::NotRun(_) => false,
     }

@@ -12,7 +12,7 @@ use crate::report::options::{Options, OutputDisplay};
 use crate::report::stopped::{StoppedTests, stopped_lines};
 use deodarsieve::CancelReason;
 use deodarsieve_run::{
-    CargoReport, CommandEnd, Disagreement, NotRun, ProgramFault, SaidNumbers, TestResult,
+    CargoReport, CommandEnd, Contradiction, NotRun, ProgramFault, SaidNumbers, TestResult,
 };
 use serde::Serialize;
 use std::borrow::Cow;
@@ -119,37 +119,37 @@ impl<'a> Problem<'a> {
 
     /// Returns the problem that a contradiction is. `stopped` are tests that became known as stopped at the same time.
     /// `output` says how much is shown of what explains it.
-    pub(crate) fn of_disagreement(
-        disagreement: &'a Disagreement,
+    pub(crate) fn of_contradiction(
+        contradiction: &'a Contradiction,
         stopped: &StoppedTests<'_>,
         output: OutputDisplay,
     ) -> Problem<'a> {
-        let problem = Problem::new(None, CONTRADICTION, disagreement_line(disagreement));
-        match disagreement {
-            Disagreement::EndedEarly { suite, .. } | Disagreement::LastLine { suite, .. } => {
+        let problem = Problem::new(None, CONTRADICTION, contradiction_line(contradiction));
+        match contradiction {
+            Contradiction::EndedEarly { suite, .. } | Contradiction::LastLine { suite, .. } => {
                 Problem {
                     suite: Some(suite),
                     ..problem
                 }
             }
-            Disagreement::Cargo(report) => Problem {
+            Contradiction::Cargo(report) => Problem {
                 lacks_events: report.lacks_events,
                 ..problem.with_why(cargo_why(report), output)
             },
-            Disagreement::NoEvent { .. } => Problem {
+            Contradiction::NoEvent { .. } => Problem {
                 lacks_events: true,
                 ..problem
             },
-            Disagreement::OutsideSuite { .. } => problem.with_stopped(stopped, output),
-            Disagreement::Command(CommandEnd::Error { words, .. }) => {
+            Contradiction::OutsideSuite { .. } => problem.with_stopped(stopped, output),
+            Contradiction::Command(CommandEnd::Error { words, .. }) => {
                 problem.with_why(rest_of_error(words), output)
             }
-            Disagreement::StrayEnd { .. }
-            | Disagreement::StraySuiteEnd { .. }
-            | Disagreement::Damaged { .. }
-            | Disagreement::Command(_)
-            | Disagreement::Program(_)
-            | Disagreement::Cancelled(_) => problem,
+            Contradiction::StrayEnd { .. }
+            | Contradiction::StraySuiteEnd { .. }
+            | Contradiction::Damaged { .. }
+            | Contradiction::Command(_)
+            | Contradiction::Program(_)
+            | Contradiction::Cancelled(_) => problem,
         }
     }
 
@@ -241,13 +241,13 @@ fn cargo_why(report: &CargoReport) -> Option<String> {
 }
 
 /// Returns the line of a contradiction.
-fn disagreement_line(disagreement: &Disagreement) -> String {
-    match disagreement {
-        Disagreement::EndedEarly { suite, end } => {
+fn contradiction_line(contradiction: &Contradiction) -> String {
+    match contradiction {
+        Contradiction::EndedEarly { suite, end } => {
             let how = end.map(|end| format!(", {}", ended_how(end)));
             format!("{} ended early{}", name(suite), how.unwrap_or_default())
         }
-        Disagreement::LastLine {
+        Contradiction::LastLine {
             suite,
             said,
             passed,
@@ -258,26 +258,26 @@ fn disagreement_line(disagreement: &Disagreement) -> String {
                 "{suite}: its last line {said}, but {passed} of its tests passed and {failed} failed"
             )
         }
-        Disagreement::StrayEnd { name: test, result } => {
+        Contradiction::StrayEnd { name: test, result } => {
             let (test, result) = (name(test), result_word(*result));
             format!("{test} ended {result}, and had not started")
         }
-        Disagreement::StraySuiteEnd {
+        Contradiction::StraySuiteEnd {
             key,
             failed_verdict,
         } => stray_suite_line(key.as_deref(), *failed_verdict),
-        Disagreement::OutsideSuite { started } => {
+        Contradiction::OutsideSuite { started } => {
             format!("{started} tests started outside of a suite")
         }
-        Disagreement::Cargo(report) => format!("cargo: {}", line(&without_colours(&report.line))),
-        Disagreement::Damaged { text } => {
+        Contradiction::Cargo(report) => format!("cargo: {}", line(&without_colours(&report.line))),
+        Contradiction::Damaged { text } => {
             let text = line(text);
             format!("a damaged line says that a test or a suite failed: {text}")
         }
-        Disagreement::NoEvent { file } => no_event_line(file.as_deref()),
-        Disagreement::Command(end) => command_line(end),
-        Disagreement::Program(fault) => fault_line(fault),
-        Disagreement::Cancelled(reason) => cancelled_line(*reason),
+        Contradiction::NoEvent { file } => no_event_line(file.as_deref()),
+        Contradiction::Command(end) => command_line(end),
+        Contradiction::Program(fault) => fault_line(fault),
+        Contradiction::Cancelled(reason) => cancelled_line(*reason),
     }
 }
 

@@ -2,7 +2,7 @@
 
 use crate::report::build::{CompilerMessages, FailedBuild};
 use deodarsieve::CancelReason;
-use deodarsieve_run::{CommandEnd, Disagreement, Event, Line, Note, ProgramEnd, ProgramLine};
+use deodarsieve_run::{CommandEnd, Contradiction, Event, Line, Note, ProgramEnd, ProgramLine};
 use std::collections::BTreeSet;
 use std::mem;
 
@@ -139,7 +139,7 @@ fn status_of(end: ProgramEnd) -> Option<i32> {
 /// Sets the exit status of the command in a note that it failed. The run has only the greatest number for each negative
 /// status that a line says.
 fn set_status(note: &mut Note, status: i32) {
-    if let Note::Disagreement(Disagreement::Command(CommandEnd::Status { code })) = note {
+    if let Note::Contradiction(Contradiction::Command(CommandEnd::Status { code })) = note {
         *code = status.cast_unsigned();
     }
 }
@@ -147,11 +147,11 @@ fn set_status(note: &mut Note, status: i32) {
 /// Returns how a command ended that was started and failed, if a note says so.
 fn end_of_command(note: &Note) -> Option<&CommandEnd> {
     match note {
-        Note::Disagreement(Disagreement::Command(CommandEnd::NotStarted { .. })) => None,
-        Note::Disagreement(Disagreement::Command(end)) => Some(end),
+        Note::Contradiction(Contradiction::Command(CommandEnd::NotStarted { .. })) => None,
+        Note::Contradiction(Contradiction::Command(end)) => Some(end),
         Note::Test(_)
         | Note::Flaky(_)
-        | Note::Disagreement(_)
+        | Note::Contradiction(_)
         | Note::NotRun(_)
         | Note::Suite(_) => None,
     }

@@ -4,7 +4,7 @@
 use crate::properties::SLOW;
 use deodarsieve::{CancelReason, RunOutcome};
 use deodarsieve_run::{
-    CommandEnd, Disagreement, Event, Failure, FailureKind, Line, Note, ProgramEnd, ProgramFault,
+    CommandEnd, Contradiction, Event, Failure, FailureKind, Line, Note, ProgramEnd, ProgramFault,
     ProgramLine, ProgramRun, RunEnd, SaidNumbers, TestNote, TestOutcome, TestResult, TestRun,
 };
 use std::collections::{BTreeMap, BTreeSet};
@@ -66,9 +66,9 @@ pub struct Suite<'a> {
 /// Returns true if a note says that tests were not run, or that something did not end because the run was cancelled.
 fn is_cut_short(note: &Note) -> bool {
     match note {
-        Note::NotRun(_) | Note::Disagreement(Disagreement::Cancelled(_)) => true,
+        Note::NotRun(_) | Note::Contradiction(Contradiction::Cancelled(_)) => true,
         Note::Suite(suite) => suite.not_run > 0,
-        Note::Test(_) | Note::Flaky(_) | Note::Disagreement(_) => false,
+        Note::Test(_) | Note::Flaky(_) | Note::Contradiction(_) => false,
     }
 }
 
@@ -286,7 +286,7 @@ pub fn attempts_of(test: &TestNote) -> (Vec<Failure>, Option<String>) {
 fn test_of(note: &Note) -> Option<&TestNote> {
     match note {
         Note::Test(test) => Some(test),
-        Note::Flaky(_) | Note::Disagreement(_) | Note::NotRun(_) | Note::Suite(_) => None,
+        Note::Flaky(_) | Note::Contradiction(_) | Note::NotRun(_) | Note::Suite(_) => None,
     }
 }
 
@@ -391,7 +391,7 @@ impl Programs {
     fn with_status(&mut self, mut notes: Vec<Note>) -> Vec<Note> {
         let status = self.status.take();
         for note in &mut notes {
-            if let Note::Disagreement(Disagreement::Command(CommandEnd::Status { code })) = note
+            if let Note::Contradiction(Contradiction::Command(CommandEnd::Status { code })) = note
                 && let Some(status) = status
             {
                 *code = (status as i32).cast_unsigned();
@@ -495,7 +495,7 @@ fn suite_of_note(note: &Note) -> Option<Option<&Rc<String>>> {
     match note {
         Note::Test(test) => Some(test.suite.as_ref()),
         Note::Suite(suite) => Some(suite.name.as_ref()),
-        Note::NotRun(_) | Note::Disagreement(_) => suite_of_problem(note).map(Some),
+        Note::NotRun(_) | Note::Contradiction(_) => suite_of_problem(note).map(Some),
         Note::Flaky(_) => None,
     }
 }
@@ -504,8 +504,8 @@ fn suite_of_note(note: &Note) -> Option<Option<&Rc<String>>> {
 pub fn suite_of_problem(note: &Note) -> Option<&Rc<String>> {
     match note {
         Note::NotRun(not_run) => Some(&not_run.suite),
-        Note::Disagreement(
-            Disagreement::EndedEarly { suite, .. } | Disagreement::LastLine { suite, .. },
+        Note::Contradiction(
+            Contradiction::EndedEarly { suite, .. } | Contradiction::LastLine { suite, .. },
         ) => Some(suite),
         _ => None,
     }
@@ -593,21 +593,21 @@ pub fn problem_line(note: &Note) -> Option<String> {
             not_run.not_run,
             not_run.initial_run_count
         )),
-        Note::Disagreement(Disagreement::Cancelled(_)) => None,
-        Note::Disagreement(disagreement) => Some(disagreement_line(disagreement)),
+        Note::Contradiction(Contradiction::Cancelled(_)) => None,
+        Note::Contradiction(contradiction) => Some(contradiction_line(contradiction)),
         Note::Test(_) | Note::Flaky(_) | Note::Suite(_) => None,
     }
 }
 
 /// Returns the line of a contradiction.
-fn disagreement_line(disagreement: &Disagreement) -> String {
+fn contradiction_line(contradiction: &Contradiction) -> String {
     let verdict = |failed: &bool| if *failed { "failed" } else { "ok" };
-    match disagreement {
-        Disagreement::EndedEarly { suite, end } => match end {
+    match contradiction {
+        Contradiction::EndedEarly { suite, end } => match end {
             Some(end) => format!("{} ended early, {}", shown(suite), ended_how(*end)),
             None => format!("{} ended early", shown(suite)),
         },
-        Disagreement::LastLine {
+        Contradiction::LastLine {
             suite,
             said,
             passed,
@@ -617,7 +617,7 @@ fn disagreement_line(disagreement: &Disagreement) -> String {
             shown(suite),
             said_text(said)
         ),
-        Disagreement::StrayEnd { name, result } => {
+        Contradiction::StrayEnd { name, result } => {
             let result = match result {
                 TestResult::Ok => "ok",
                 TestResult::Failed => "failed",
@@ -625,7 +625,7 @@ fn disagreement_line(disagreement: &Disagreement) -> String {
             };
             format!("{} ended {result}, and had not started", shown(name))
         }
-        Disagreement::StraySuiteEnd {
+        Contradiction::StraySuiteEnd {
             key,
             failed_verdict,
         } => {
@@ -633,18 +633,18 @@ fn disagreement_line(disagreement: &Disagreement) -> String {
             let verdict = verdict(failed_verdict);
             format!("a suite ended that had not started: {key}{verdict}")
         }
-        Disagreement::OutsideSuite { started } => {
+        Contradiction::OutsideSuite { started } => {
             format!("{started} tests started outside of a suite")
         }
-        Disagreement::Cargo(report) => format!("cargo: {}", controlled(&report.line, true)),
-        Disagreement::Damaged { text } => format!(
+        Contradiction::Cargo(report) => format!("cargo: {}", controlled(&report.line, true)),
+        Contradiction::Damaged { text } => format!(
             "a damaged line says that a test or a suite failed: {}",
             controlled(text, true)
         ),
-        Disagreement::NoEvent { .. } => "no line of the input is of a test run".to_string(),
-        Disagreement::Command(end) => command_line(end),
-        Disagreement::Program(fault) => fault_line(fault),
-        Disagreement::Cancelled(reason) => panic!("no form shows this: {reason:?}"),
+        Contradiction::NoEvent { .. } => "no line of the input is of a test run".to_string(),
+        Contradiction::Command(end) => command_line(end),
+        Contradiction::Program(fault) => fault_line(fault),
+        Contradiction::Cancelled(reason) => panic!("no form shows this: {reason:?}"),
     }
 }
 

@@ -7,7 +7,7 @@ use crate::properties::facts::{
 };
 use deodarsieve::RunStats;
 use deodarsieve_cli::report::options::{Options, OutputDisplay};
-use deodarsieve_run::{Crash, Disagreement, Failure, FailureKind, Note, TestNote, TestOutcome};
+use deodarsieve_run::{Contradiction, Crash, Failure, FailureKind, Note, TestNote, TestOutcome};
 use serde_json::{Value, json};
 use std::rc::Rc;
 
@@ -361,7 +361,7 @@ fn check_stopped(facts: &Facts, reasons: &[Option<String>]) {
     for ((note, _), why) in facts.problems().zip(&reasons[no_tests..]) {
         let is_theirs = |suite: &&Suite<'_>| match note {
             Note::NotRun(_) => suite.notes.iter().any(|own| std::ptr::eq(*own, note)),
-            Note::Disagreement(Disagreement::OutsideSuite { .. }) => suite.name.is_none(),
+            Note::Contradiction(Contradiction::OutsideSuite { .. }) => suite.name.is_none(),
             _ => false,
         };
         match suites.iter().find(is_theirs) {

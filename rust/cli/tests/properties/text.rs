@@ -9,7 +9,7 @@ use crate::properties::json::{Place, Shown, ShownFailure, limited, reason_of, wi
 use crate::properties::written::{SLOWEST, Written};
 use deodarsieve::{CancelReason, TestOutputErrorSlice};
 use deodarsieve_cli::report::options::Options;
-use deodarsieve_run::{Crash, Disagreement, Failure, FailureKind, Note, TestNote, TestOutcome};
+use deodarsieve_run::{Contradiction, Crash, Failure, FailureKind, Note, TestNote, TestOutcome};
 use std::cmp::Reverse;
 
 /// What ends a colour.
@@ -205,11 +205,11 @@ fn lines_before(facts: &Facts, shown: &Shown, kind: Kind) -> String {
                     text += &passed_lines(test, attempts, kind);
                 }
             }
-            Note::Disagreement(_) | Note::NotRun(_) if problem_line(note).is_some() => {
+            Note::Contradiction(_) | Note::NotRun(_) if problem_line(note).is_some() => {
                 let why = reasons.next().expect("each problem is shown");
                 text += &problem_lines(note, why.as_deref(), kind);
             }
-            Note::Disagreement(_) | Note::NotRun(_) | Note::Suite(_) => {}
+            Note::Contradiction(_) | Note::NotRun(_) | Note::Suite(_) => {}
         }
     }
     text += &kind.own(&without_report(facts, facts.notes.len()));
@@ -230,8 +230,8 @@ fn without_report(facts: &Facts, place: usize) -> String {
 fn problem_lines(note: &Note, why: Option<&str>, kind: Kind) -> String {
     let line = kind.own(&problem_line(note).expect("it is a problem")) + "\n";
     let lacks_events = match note {
-        Note::Disagreement(Disagreement::NoEvent { .. }) => true,
-        Note::Disagreement(Disagreement::Cargo(report)) => report.lacks_events,
+        Note::Contradiction(Contradiction::NoEvent { .. }) => true,
+        Note::Contradiction(Contradiction::Cargo(report)) => report.lacks_events,
         _ => false,
     };
     let advice = if lacks_events { ADVICE } else { "" };
@@ -302,17 +302,17 @@ fn list(facts: &Facts, shown: &Shown, kind: Kind) -> String {
             text += &listed("STOPPED", test, kind);
         }
     }
-    for line in disagreements(facts) {
+    for line in contradictions(facts) {
         text += &format!("       ERROR {}\n", kind.inside(&line));
     }
     text
 }
 
 /// Returns the lines of the contradictions.
-fn disagreements(facts: &Facts) -> impl Iterator<Item = String> {
+fn contradictions(facts: &Facts) -> impl Iterator<Item = String> {
     let notes = facts.notes.iter();
-    let disagreements = notes.filter(|note| matches!(note, Note::Disagreement(_)));
-    disagreements.filter_map(problem_line)
+    let contradictions = notes.filter(|note| matches!(note, Note::Contradiction(_)));
+    contradictions.filter_map(problem_line)
 }
 
 /// What failed tests of one entry have in common: the status, the place, and the reason without it.
@@ -406,7 +406,7 @@ pub fn slowest_tests(facts: &Facts) -> Vec<&TestNote> {
 /// Returns the numbers of a run that are not 0, in words.
 fn numbers_of(facts: &Facts) -> String {
     let (stats, end) = (&facts.end.stats, &facts.end);
-    let errors = disagreements(facts).count();
+    let errors = contradictions(facts).count();
     let more = |parts: [(usize, &str); 2]| match parts {
         [(0, _), (0, _)] => String::new(),
         [(one, word), (0, _)] | [(0, _), (one, word)] => format!(" ({one} {word})"),
@@ -525,7 +525,7 @@ fn annotations(facts: &Facts, shown: &Shown) -> String {
     let mut reasons = shown.problems.iter();
     let mut text = String::new();
     for note in &facts.notes {
-        if matches!(note, Note::Disagreement(_) | Note::NotRun(_))
+        if matches!(note, Note::Contradiction(_) | Note::NotRun(_))
             && let Some(mut message) = problem_line(note)
         {
             if let Some(why) = reasons.next().expect("each problem is shown") {
@@ -669,6 +669,6 @@ fn check_colours(facts: &Facts, shown: &Shown, all: &str) {
     let listed = groups(facts, shown, true).len();
     assert_eq!(
         count,
-        tests + flaky + disagreements(facts).count() + slowest + listed
+        tests + flaky + contradictions(facts).count() + slowest + listed
     );
 }

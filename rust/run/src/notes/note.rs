@@ -19,7 +19,7 @@ pub enum Note {
 
     /// Lines of the run contradict each other, a damaged line says a failure, a file has no event, or the command
     /// of the run failed.
-    Disagreement(Disagreement),
+    Contradiction(Contradiction),
 
     /// Some tests of a suite did not run.
     NotRun(NotRun),
@@ -146,7 +146,7 @@ pub struct Crash {
 /// A contradiction between lines of a run. A damaged line that says a failure, a file without an event of a
 /// harness, and the end of a command that failed count as contradictions, too.
 #[derive(Clone, Debug)]
-pub enum Disagreement {
+pub enum Contradiction {
     /// A suite has no last line, and none of its tests crashed.
     EndedEarly {
         /// The name of the suite.
@@ -204,14 +204,14 @@ pub enum Disagreement {
         text: String,
     },
 
-    /// No line of a file is an event of a harness, and nothing failed or disagreed in it.
+    /// A file has no event of a harness, no failed test and no other contradiction.
     NoEvent {
         /// The name of the file, if the files of the run have names.
         file: Option<String>,
     },
 
-    /// The command of the run could not be started, ended by a signal, or ended with a status above 0 although
-    /// nothing failed or disagreed.
+    /// The command of the run could not be started, ended by a signal, or ended with a status above 0 although no
+    /// test failed and there was no other contradiction.
     Command(CommandEnd),
 
     /// The lines of programs contradict each other, or a program did not end as it should have.

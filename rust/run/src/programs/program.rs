@@ -3,7 +3,7 @@
 
 use crate::events::event::Event;
 use crate::events::program::{ProgramEnd, ProgramStart};
-use crate::notes::note::{CommandEnd, Disagreement, FailureKind, Note, ProgramFault, TestOutcome};
+use crate::notes::note::{CommandEnd, Contradiction, FailureKind, Note, ProgramFault, TestOutcome};
 use crate::programs::names::threads_of;
 use crate::run::early::EarlyEnd;
 
@@ -31,7 +31,7 @@ pub(crate) struct Program {
     /// True if one of its suites or tests started.
     ran: bool,
 
-    /// True if something failed or disagreed since it started.
+    /// True if a test failed or lines contradicted each other since it started.
     failed: bool,
 
     /// True if a test crashed or a suite ended early since it started.
@@ -197,7 +197,7 @@ fn has_break(notes: &[Note]) -> bool {
 fn is_failure(note: &Note) -> bool {
     match note {
         Note::Test(test) => matches!(test.outcome, TestOutcome::Failed(_)),
-        Note::Disagreement(_) => true,
+        Note::Contradiction(_) => true,
         Note::Flaky(_) | Note::NotRun(_) | Note::Suite(_) => false,
     }
 }
@@ -211,7 +211,9 @@ fn is_break(note: &Note) -> bool {
                 false
             }
         },
-        Note::Disagreement(disagreement) => matches!(disagreement, Disagreement::EndedEarly { .. }),
+        Note::Contradiction(contradiction) => {
+            matches!(contradiction, Contradiction::EndedEarly { .. })
+        }
         Note::Flaky(_) | Note::NotRun(_) | Note::Suite(_) => false,
     }
 }

@@ -7,7 +7,7 @@ use deodarsieve::CounterFull;
 #[derive(Clone, Copy, Debug, PartialEq, Eq)]
 pub enum RunError {
     /// A number of the run does not fit its counter: a number of tests, suites, prints, headings, or failed tests and
-    /// disagreements does not fit `usize`, or a sum of numbers in last lines of suites does not fit 128 bits.
+    /// contradictions does not fit `usize`, or a sum of numbers in last lines of suites does not fit 128 bits.
     CounterFull,
 }
 

@@ -119,7 +119,7 @@ fn says_flaky_failed(tally: Tally, said: SaidNumbers, failed: u128) -> bool {
 
 /// Returns true if the last line of a suite contradicts its tests: `passed` of them passed, and `failed`
 /// of them failed.
-pub(crate) fn disagrees(said: SaidNumbers, passed: usize, failed: usize) -> bool {
+pub(crate) fn contradicts(said: SaidNumbers, passed: usize, failed: usize) -> bool {
     said.failed_verdict != (failed > 0)
         || is_other(said.passed, passed)
         || is_other(said.failed, failed)

@@ -7,9 +7,9 @@
 //! a test failed. `finish` also returns the counts, the outcome and the exit status of the run. The types of notes and
 //! counts are in `test_report_run_notes`.
 
+mod contradictions;
 mod counted;
 mod cuts;
-mod disagreements;
 pub mod early;
 mod ended;
 pub mod error;

@@ -4,13 +4,13 @@
 use crate::events::program::ProgramEnd;
 use crate::notes::finish::Finish;
 use crate::notes::note::{
-    Crash, Disagreement, Failure, FailureKind, NotRun, Note, SuiteNote, TestOutcome, failed_count,
+    Contradiction, Crash, Failure, FailureKind, NotRun, Note, SuiteNote, TestOutcome, failed_count,
 };
-use crate::run::disagreements::push_disagreement;
+use crate::run::contradictions::push_contradiction;
 use crate::run::early::Ending;
 use crate::run::error::{RunError, one_more};
 use crate::run::flaky::FlakyTests;
-use crate::run::last_line::{Explanation, disagrees, explained};
+use crate::run::last_line::{Explanation, contradicts, explained};
 use crate::run::others::Others;
 use crate::run::running::RunningTest;
 use crate::run::suite::{FlakyTest, OverTest, Suite};
@@ -193,19 +193,19 @@ impl Suite {
         self.push_finished(Finish::Failed, over, TestOutcome::Failed(failure), notes)
     }
 
-    /// Adds the disagreement of a suite that ends early, if there is one.
+    /// Adds the contradiction of a suite that ends early, if there is one.
     fn push_early_end(&self, end: Option<ProgramEnd>, crashed: usize, notes: &mut Vec<Note>) {
         match self.name.shown() {
             Some(suite) if crashed == 0 => {
-                let disagreement = match self.cancel {
-                    Some(reason) => Disagreement::Cancelled(reason),
-                    None => Disagreement::EndedEarly { suite, end },
+                let contradiction = match self.cancel {
+                    Some(reason) => Contradiction::Cancelled(reason),
+                    None => Contradiction::EndedEarly { suite, end },
                 };
-                push_disagreement(disagreement, notes);
+                push_contradiction(contradiction, notes);
             }
             None if self.started > 0 => {
                 let started = self.started;
-                push_disagreement(Disagreement::OutsideSuite { started }, notes);
+                push_contradiction(Contradiction::OutsideSuite { started }, notes);
             }
             _ => {}
         }
@@ -288,20 +288,20 @@ impl Suite {
         Ok(0)
     }
 
-    /// Adds a disagreement if the last line contradicts the tests. Fails if memory runs out, or the number of passed
+    /// Adds a contradiction if the last line contradicts the tests. Fails if memory runs out, or the number of passed
     /// tests that the last lines say does not fit.
     fn push_last_line(&self, notes: &mut Vec<Note>) -> Result<(), RunError> {
         let said = self.said.numbers()?;
         let (passed, failed) = (self.stats.passed, failed_count(&self.stats));
         match self.name.shown() {
-            Some(suite) if disagrees(said, passed, failed) => {
-                let disagreement = Disagreement::LastLine {
+            Some(suite) if contradicts(said, passed, failed) => {
+                let contradiction = Contradiction::LastLine {
                     suite,
                     said,
                     passed,
                     failed,
                 };
-                push_disagreement(disagreement, notes);
+                push_contradiction(contradiction, notes);
                 Ok(())
             }
             _ => Ok(()),

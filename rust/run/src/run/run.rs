@@ -11,8 +11,8 @@ mod test_lines;
 
 use crate::events::event::Event;
 use crate::events::line::Line;
-use crate::notes::note::{CargoReport, CommandEnd, Disagreement, Note, RunEnd, TestOutcome};
-use crate::run::disagreements::push_disagreement;
+use crate::notes::note::{CargoReport, CommandEnd, Contradiction, Note, RunEnd, TestOutcome};
+use crate::run::contradictions::push_contradiction;
 use crate::run::early::Ending;
 use crate::run::error::{RunError, one_more};
 use crate::run::headings::Headings;
@@ -54,7 +54,7 @@ pub struct TestRun {
     /// The plain text of the prints after the last heading, event or failure of cargo.
     recent: LongestEnd,
 
-    /// The last failure of cargo that disagrees, until what may say why is read.
+    /// The last failure of cargo that is a contradiction, until what may say why is read.
     reported: Option<CargoReport>,
 
     /// The failures of cargo that wait for the end of the command.
@@ -75,12 +75,12 @@ pub struct TestRun {
     running: Running,
     ended: usize,
     totals: Totals,
-    disagreements: usize,
+    contradictions: usize,
 
-    /// How many disagreements say that the run was cancelled.
+    /// How many contradictions say that the run was cancelled.
     cancels: usize,
 
-    /// The number of failed tests and disagreements until now, until the file began, and until the last
+    /// The number of failed tests and contradictions until now, until the file began, and until the last
     /// failure of cargo outside of a suite. They decide whether a failure of cargo is explained. Failures of cargo
     /// are counted before they become known.
     causes: usize,
@@ -134,7 +134,7 @@ impl TestRun {
             running: Running::new(),
             ended: 0,
             totals: Totals::new(),
-            disagreements: 0,
+            contradictions: 0,
             cancels: 0,
             causes: 0,
             causes_at_file: 0,
@@ -158,7 +158,7 @@ impl TestRun {
     }
 
     /// Takes the next event, and returns the notes that it makes known. `on_line` calls it for each event of a
-    /// line. The notes of a suite are in this order: its tests without an end, its flaky tests, disagreements,
+    /// line. The notes of a suite are in this order: its tests without an end, its flaky tests, contradictions,
     /// tests that did not run, and the numbers of the suite.
     ///
     /// Fails if a number of the run does not fit its counter. After an error the run must not be used: a part of the event
@@ -228,18 +228,18 @@ impl TestRun {
 
     /// Returns the sums and the outcome of the run, up to the last file that has ended.
     pub fn end(&self) -> RunEnd {
-        self.totals.end(self.disagreements, self.cancels)
+        self.totals.end(self.contradictions, self.cancels)
     }
 
-    /// Adds a disagreement if no line of the file is an event of a harness and nothing failed or disagreed in it,
-    /// unless its command ended with status 0 or was not started.
+    /// Adds a contradiction if the file has no event of a harness, no failed test and no other contradiction, unless
+    /// its command ended with status 0 or was not started.
     fn push_no_event(&self, notes: &mut Vec<Note>) {
         let explained = self.causes > self.causes_at_file || says_more(&self.command);
         if self.has_event || explained {
             return;
         }
         let file = first_name(&self.file_names);
-        push_disagreement(Disagreement::NoEvent { file }, notes);
+        push_contradiction(Contradiction::NoEvent { file }, notes);
     }
 
     /// Adds notes to the sums. Fails if a sum does not fit.
@@ -259,19 +259,19 @@ impl TestRun {
                 }
                 Ok(())
             }
-            Note::Disagreement(disagreement) => self.learn_disagreement(disagreement),
+            Note::Contradiction(contradiction) => self.learn_contradiction(contradiction),
             Note::Flaky(_) | Note::NotRun(_) => Ok(()),
             Note::Suite(suite) => self.totals.add(suite),
         }
     }
 
-    /// Counts a disagreement. Fails if a sum does not fit.
-    fn learn_disagreement(&mut self, disagreement: &Disagreement) -> Result<(), RunError> {
-        self.disagreements = one_more(self.disagreements)?;
-        if matches!(disagreement, Disagreement::Cancelled(_)) {
+    /// Counts a contradiction. Fails if a sum does not fit.
+    fn learn_contradiction(&mut self, contradiction: &Contradiction) -> Result<(), RunError> {
+        self.contradictions = one_more(self.contradictions)?;
+        if matches!(contradiction, Contradiction::Cancelled(_)) {
             self.cancels = one_more(self.cancels)?;
         }
-        if is_new(disagreement) {
+        if is_new(contradiction) {
             self.causes = one_more(self.causes)?;
         }
         Ok(())
@@ -286,11 +286,11 @@ fn first_name(names: &VecDeque<String>) -> Option<String> {
     }
 }
 
-/// Returns true if a disagreement is counted among the causes when it becomes known. A failure of cargo is counted at
+/// Returns true if a contradiction is counted among the causes when it becomes known. A failure of cargo is counted at
 /// its line, and that a file has no event explains nothing.
-fn is_new(disagreement: &Disagreement) -> bool {
+fn is_new(contradiction: &Contradiction) -> bool {
     !matches!(
-        disagreement,
-        Disagreement::Cargo(_) | Disagreement::NoEvent { .. }
+        contradiction,
+        Contradiction::Cargo(_) | Contradiction::NoEvent { .. }
     )
 }

@@ -44,14 +44,14 @@ impl Totals {
         Ok(())
     }
 
-    /// Returns the sums and the outcome of the run. `disagreements` is the number of contradictions, of which `cancels`
+    /// Returns the sums and the outcome of the run. `contradictions` is the number of contradictions, of which `cancels`
     /// say that the run was cancelled. The run failed if there are others, and was cancelled if there are only these and
     /// nothing failed.
-    pub(crate) fn end(&self, disagreements: usize, cancels: usize) -> RunEnd {
+    pub(crate) fn end(&self, contradictions: usize, cancels: usize) -> RunEnd {
         let step = RunFailureStep::Test;
-        let outcome = if disagreements > cancels {
+        let outcome = if contradictions > cancels {
             RunOutcome::Failed { step }
-        } else if disagreements > 0 {
+        } else if contradictions > 0 {
             self.end.outcome.combine(RunOutcome::Cancelled { step })
         } else {
             self.end.outcome

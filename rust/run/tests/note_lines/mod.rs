@@ -2,7 +2,7 @@
 
 use crate::common::{SLOW, finish, take};
 use deodarsieve_run::{
-    CommandEnd, Disagreement, FailureKind, Finished, Note, ProgramFault, TestNote, TestOutcome,
+    CommandEnd, Contradiction, FailureKind, Finished, Note, ProgramFault, TestNote, TestOutcome,
     TestRun, failed_count,
 };
 
@@ -28,7 +28,7 @@ fn line_of(note: &Note) -> String {
     match note {
         Note::Test(test) => format!("{} {}", name_of(test), outcome_of(&test.outcome)),
         Note::Flaky(test) => format!("{} is flaky", name_of(test)),
-        Note::Disagreement(disagreement) => disagreement_of(disagreement),
+        Note::Contradiction(contradiction) => contradiction_of(contradiction),
         Note::NotRun(suite) => format!(
             "{}: {} of {} did not run",
             suite.suite, suite.not_run, suite.initial_run_count
@@ -90,14 +90,14 @@ fn outcome_of(outcome: &TestOutcome) -> String {
     }
 }
 
-/// Returns a disagreement as a line.
-fn disagreement_of(disagreement: &Disagreement) -> String {
-    match disagreement {
-        Disagreement::EndedEarly { suite, end } => match end {
+/// Returns a contradiction as a line.
+fn contradiction_of(contradiction: &Contradiction) -> String {
+    match contradiction {
+        Contradiction::EndedEarly { suite, end } => match end {
             Some(end) => format!("{suite} ended early by {end:?}"),
             None => format!("{suite} ended early"),
         },
-        Disagreement::LastLine {
+        Contradiction::LastLine {
             suite,
             said,
             passed,
@@ -108,23 +108,25 @@ fn disagreement_of(disagreement: &Disagreement) -> String {
             said.failed,
             verdict(said.failed_verdict)
         ),
-        Disagreement::StrayEnd { name, result } => format!("stray end of {name}: {result:?}"),
-        Disagreement::StraySuiteEnd {
+        Contradiction::StrayEnd { name, result } => format!("stray end of {name}: {result:?}"),
+        Contradiction::StraySuiteEnd {
             key,
             failed_verdict,
         } => format!("stray end of suite {key:?}: {}", verdict(*failed_verdict)),
-        Disagreement::OutsideSuite { started } => format!("{started} outside of a suite"),
-        Disagreement::Cargo(report) => format!("cargo: {}", report.line),
-        Disagreement::Damaged { text } => format!("damaged: {text}"),
-        Disagreement::NoEvent { file } => format!("no event in {file:?}"),
-        Disagreement::Command(CommandEnd::NotStarted { error }) => format!("not started: {error}"),
-        Disagreement::Command(CommandEnd::Signal { number }) => format!("ended by signal {number}"),
-        Disagreement::Command(CommandEnd::Status { code }) => format!("ended with status {code}"),
-        Disagreement::Command(CommandEnd::Error { code, words }) => {
+        Contradiction::OutsideSuite { started } => format!("{started} outside of a suite"),
+        Contradiction::Cargo(report) => format!("cargo: {}", report.line),
+        Contradiction::Damaged { text } => format!("damaged: {text}"),
+        Contradiction::NoEvent { file } => format!("no event in {file:?}"),
+        Contradiction::Command(CommandEnd::NotStarted { error }) => format!("not started: {error}"),
+        Contradiction::Command(CommandEnd::Signal { number }) => {
+            format!("ended by signal {number}")
+        }
+        Contradiction::Command(CommandEnd::Status { code }) => format!("ended with status {code}"),
+        Contradiction::Command(CommandEnd::Error { code, words }) => {
             format!("ended with status {code}: {words}")
         }
-        Disagreement::Program(fault) => fault_of(fault),
-        Disagreement::Cancelled(reason) => format!("cancelled: {reason:?}"),
+        Contradiction::Program(fault) => fault_of(fault),
+        Contradiction::Cancelled(reason) => format!("cancelled: {reason:?}"),
     }
 }
 

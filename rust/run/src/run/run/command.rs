@@ -1,8 +1,8 @@
 // Made by tools/erase from crates/test_report_run/src/run/command.rt. Do not edit.
 //! The command whose output the lines of a run are.
 
-use crate::notes::note::{CargoReport, CommandEnd, Disagreement, Note};
-use crate::run::disagreements::push_disagreement;
+use crate::notes::note::{CargoReport, CommandEnd, Contradiction, Note};
+use crate::run::contradictions::push_contradiction;
 use crate::run::error::RunError;
 use crate::run::run::TestRun;
 use crate::run::suite_names::SuiteNames;
@@ -41,14 +41,14 @@ impl TestRun {
         }
     }
 
-    /// Adds a disagreement if the command failed and nothing says why, and counts it. Fails if memory runs out, or
+    /// Adds a contradiction if the command failed and nothing says why, and counts it. Fails if memory runs out, or
     /// a sum does not fit.
     pub(crate) fn end_command(&mut self, notes: &mut Vec<Note>) -> Result<(), RunError> {
         let Some(end) = self.command.take() else {
             return Ok(());
         };
         if command_fails(self.causes, &end) {
-            self.push_contradiction(Disagreement::Command(end), notes)
+            self.push_end_contradiction(Contradiction::Command(end), notes)
         } else {
             Ok(())
         }
@@ -69,16 +69,16 @@ pub(crate) fn says_more(command: &Option<CommandEnd>) -> bool {
     )
 }
 
-/// Appends failures of cargo that disagree. `has_event` is true if a line of the file is an event.
+/// Appends failures of cargo that are contradictions. `has_event` is true if a line of the file is an event.
 fn push_reports(reports: Vec<CargoReport>, has_event: bool, notes: &mut Vec<Note>) {
     for mut report in reports {
         report.lacks_events = report.lacks_events && !has_event;
-        push_disagreement(Disagreement::Cargo(report), notes);
+        push_contradiction(Contradiction::Cargo(report), notes);
     }
 }
 
-/// Returns true if a command could not be started, ended by a signal, or ended with a status above 0 although nothing
-/// failed or disagreed. `causes` is the number of failed tests and disagreements.
+/// Returns true if a command could not be started, ended by a signal, or ended with a status above 0 although `causes` is
+/// 0. `causes` is the number of failed tests and contradictions.
 fn command_fails(causes: usize, end: &CommandEnd) -> bool {
     match end {
         CommandEnd::NotStarted { .. } | CommandEnd::Signal { .. } => true,

@@ -2,9 +2,9 @@
 //! Headings, failures of cargo, prints, and damaged lines.
 
 use crate::events::event::CargoFailure;
-use crate::notes::note::{CargoReport, Disagreement, Note};
+use crate::notes::note::{CargoReport, Contradiction, Note};
+use crate::run::contradictions::push_contradiction;
 use crate::run::cuts::shortened;
-use crate::run::disagreements::push_disagreement;
 use crate::run::error::{RunError, one_more};
 use crate::run::run::TestRun;
 use crate::run::suite_names::SuiteNames;
@@ -29,16 +29,16 @@ impl TestRun {
         Ok(())
     }
 
-    /// Takes a line in which cargo or nextest reports a failure. If it disagrees, it counts from now on. Fails if
-    /// memory runs out, or the number of failed tests and disagreements does not fit.
+    /// Takes a line in which cargo or nextest reports a failure. If it is a contradiction, it counts from now on. Fails
+    /// if memory runs out, or the number of failed tests and contradictions does not fit.
     pub(crate) fn on_cargo_failed(
         &mut self,
         failure: CargoFailure,
         plain: &str,
     ) -> Result<(), RunError> {
-        let disagrees = self.disagrees(failure);
+        let contradicts = self.contradicts(failure);
         self.others.on_failure();
-        if disagrees {
+        if contradicts {
             let lacks_events = lacks_events(self.has_event, self.lacked_events, plain);
             self.causes = one_more(self.causes)?;
             self.reported = Some(CargoReport {
@@ -52,9 +52,9 @@ impl TestRun {
         Ok(())
     }
 
-    /// Returns true if no suite is open, and no failed test or earlier disagreement explains this failure of cargo
+    /// Returns true if no suite is open, and no failed test or earlier contradiction explains this failure of cargo
     /// or nextest. A failed build is never explained.
-    fn disagrees(&self, failure: CargoFailure) -> bool {
+    fn contradicts(&self, failure: CargoFailure) -> bool {
         let explained = match failure {
             CargoFailure::Build => false,
             CargoFailure::Tests => self.causes > self.causes_at_cargo,
@@ -74,7 +74,7 @@ impl TestRun {
         if self.of_command {
             self.held.push(report);
         } else {
-            push_disagreement(Disagreement::Cargo(report), notes);
+            push_contradiction(Contradiction::Cargo(report), notes);
         }
     }
 }
@@ -99,8 +99,8 @@ fn known_name<'a>(names: &'a SuiteNames, path: Option<&str>) -> Option<&'a str> 
     names.get(path?)
 }
 
-/// Adds the disagreement of a damaged line that says a failure.
+/// Adds the contradiction of a damaged line that says a failure.
 pub(crate) fn push_damaged(text: &str, notes: &mut Vec<Note>) {
     let text = String::from(shortened(text));
-    push_disagreement(Disagreement::Damaged { text }, notes);
+    push_contradiction(Contradiction::Damaged { text }, notes);
 }

@@ -1,8 +1,8 @@
 // Made by tools/erase from crates/test_report_run/src/run/programs.rt. Do not edit.
 //! The end of a program whose tests the lines of a run are of.
 
-use crate::notes::note::{Disagreement, Note, ProgramFault};
-use crate::run::disagreements::push_disagreement;
+use crate::notes::note::{Contradiction, Note, ProgramFault};
+use crate::run::contradictions::push_contradiction;
 use crate::run::early::{EarlyEnd, Ending};
 use crate::run::error::RunError;
 use crate::run::run::TestRun;
@@ -24,26 +24,26 @@ impl TestRun {
         Ok(notes)
     }
 
-    /// Notes that the lines of programs disagree. Returns the note of that, which says that the run was cancelled if it
-    /// was.
+    /// Notes that the lines of programs contradict each other. Returns the note of that, which says that the run was
+    /// cancelled if it was.
     ///
     /// Fails if a number of the run does not fit its counter. After an error the run must not be used.
     pub fn on_program_fault(&mut self, fault: ProgramFault) -> Result<Vec<Note>, RunError> {
         let mut notes = Vec::new();
-        self.push_contradiction(Disagreement::Program(fault), &mut notes)?;
+        self.push_end_contradiction(Contradiction::Program(fault), &mut notes)?;
         Ok(notes)
     }
 
     /// Adds a contradiction about the end of something, or that the run was cancelled, and counts it. Fails if memory
     /// runs out, or a sum does not fit.
-    pub(crate) fn push_contradiction(
+    pub(crate) fn push_end_contradiction(
         &mut self,
-        disagreement: Disagreement,
+        contradiction: Contradiction,
         notes: &mut Vec<Note>,
     ) -> Result<(), RunError> {
-        let disagreement = unless_cancelled(self.cancel, disagreement);
-        self.learn_disagreement(&disagreement)?;
-        push_disagreement(disagreement, notes);
+        let contradiction = unless_cancelled(self.cancel, contradiction);
+        self.learn_contradiction(&contradiction)?;
+        push_contradiction(contradiction, notes);
         Ok(())
     }
 
@@ -80,9 +80,9 @@ fn ending(running: &Running, early: EarlyEnd) -> Ending {
 }
 
 /// Returns a contradiction about the end of something, or that the run was cancelled. `cancel` is the reason, if it was.
-fn unless_cancelled(cancel: Option<CancelReason>, disagreement: Disagreement) -> Disagreement {
+fn unless_cancelled(cancel: Option<CancelReason>, contradiction: Contradiction) -> Contradiction {
     match cancel {
-        Some(reason) => Disagreement::Cancelled(reason),
-        None => disagreement,
+        Some(reason) => Contradiction::Cancelled(reason),
+        None => contradiction,
     }
 }

@@ -2,8 +2,8 @@
 //! The first and the last lines of suites.
 
 use crate::events::event::{SuiteEnd, SuiteKey};
-use crate::notes::note::{Disagreement, Note};
-use crate::run::disagreements::push_disagreement;
+use crate::notes::note::{Contradiction, Note};
+use crate::run::contradictions::push_contradiction;
 use crate::run::early::Ending;
 use crate::run::error::RunError;
 use crate::run::run::TestRun;
@@ -139,12 +139,12 @@ fn wide(count: Option<u64>) -> Option<u128> {
     count.map(u128::from)
 }
 
-/// Adds a disagreement if the last line of a suite that is not open counts tests. `key` is the key in the line.
+/// Adds a contradiction if the last line of a suite that is not open counts tests. `key` is the key in the line.
 fn push_stray_end(key: Option<String>, end: SuiteEnd<'_>, notes: &mut Vec<Note>) {
     if counts_tests(end) {
         let failed_verdict = end.failed_verdict;
-        push_disagreement(
-            Disagreement::StraySuiteEnd {
+        push_contradiction(
+            Contradiction::StraySuiteEnd {
                 key,
                 failed_verdict,
             },

@@ -2,8 +2,8 @@
 //! The starts and the ends of tests.
 
 use crate::events::event::{TestDetails, TestResult};
-use crate::notes::note::{Disagreement, Note};
-use crate::run::disagreements::push_disagreement;
+use crate::notes::note::{Contradiction, Note};
+use crate::run::contradictions::push_contradiction;
 use crate::run::error::{RunError, one_more};
 use crate::run::run::TestRun;
 use crate::run::running::RunningTest;
@@ -135,7 +135,7 @@ impl TestRun {
     }
 
     /// Takes the end of a test that is not running. The test is counted unless it passed. The end is a
-    /// disagreement unless the test was ignored.
+    /// contradiction unless the test was ignored.
     fn on_stray_end(
         &mut self,
         name: &str,
@@ -202,8 +202,8 @@ fn is_long(time: Option<u64>, least: u64) -> bool {
     }
 }
 
-/// Adds the disagreement of a test that ends and is not running.
+/// Adds the contradiction of a test that ends and is not running.
 fn push_stray_end(name: &str, end: TestResult, notes: &mut Vec<Note>) {
     let name = String::from(name);
-    push_disagreement(Disagreement::StrayEnd { name, result: end }, notes);
+    push_contradiction(Contradiction::StrayEnd { name, result: end }, notes);
 }

@@ -2,7 +2,7 @@
 use Rattle.std.proofs.Common.{◌∙◌, Option, ap, map, option_and_then, option_map, refl, sym}
 use Rattle.std.proofs.lemmas.Result.{on_ok_weaker}
 use Rattle.std.specs.Option.{option_map_or}
-use Rattle.test_report_events.specs.Event.{AllEndEarly, ProgramDisagrees}
+use Rattle.test_report_events.specs.Event.{AllEndEarly, ProgramContradicts}
 use Rattle.test_report_run.specs.Over.{early_view}
 use Rattle.test_report_run.specs.Run.{run_state}
 use Rattle.test_report_run_notes.specs.Note.{fault_view, note_view}
@@ -20,7 +20,7 @@ returns-in-Some c =
     let after = step (record (programs_state c.args.self.now) { program = option_map program_state c.keep.new.program; run = run })
     (map note_view c.keep.new.notes.items) in
     let judge : Option ProgramFault → ProgramsStep = λ fault.
-    told_if (without_program after) (option_map ProgramDisagrees (option_map fault_view fault)) in
+    told_if (without_program after) (option_map ProgramContradicts (option_map fault_view fault)) in
     let ended = told-by start run e _ _ _ _ refl c.in_ok-told.ensures.tells c.in_ok-told.ensures.takes c.keep.ensures.keeps c.in_ok-keep.ensures.tells in
     let fault = c.in_ok-fault.ensures ∙ ap (option_and_then rule) (seen-program c.as_ref.result c.keep.new.program c.as_ref.ensures.value) in
     on_ok_weaker c.tell_fault.result (λ tells. ended-early rule start after _ e _ ended fault (tells ∙ ap judge (sym c.in-Some.is))) c.tell_fault.ensures
@@ -34,7 +34,7 @@ returns-in-None c =
     let after = step (record (programs_state c.args.self.now) { program = option_map program_state c.keep.new.program; run = run })
     (map note_view c.keep.new.notes.items) in
     let judge : Option ProgramFault → ProgramsStep = λ fault.
-    told_if (without_program after) (option_map ProgramDisagrees (option_map fault_view fault)) in
+    told_if (without_program after) (option_map ProgramContradicts (option_map fault_view fault)) in
     let ended = told-by start run e _ _ _ _ refl c.in_ok-told.ensures.tells c.in_ok-told.ensures.takes c.keep.ensures.keeps c.in_ok-keep.ensures.tells in
     let fault = c.in_ok-fault.ensures ∙ ap (option_and_then rule) (seen-program c.as_ref.result c.keep.new.program c.as_ref.ensures.value) in
     ended-early rule start after _ e _ ended fault (ap judge (sym c.in-None.is))

@@ -3,12 +3,12 @@ use Rattle.std.proofs.Common.{◌≡◌, ◌∙◌, ◌++◌, ◌∷◌, [], Lis
 use Rattle.std.proofs.lemmas.Result.{on_ok_weaker}
 use Rattle.test_report_events.specs.Event.{TestEndView, test_end_view}
 use Rattle.test_report_events.specs.declared.event.TestResult.TheVariants.{Failed, Ignored}
-use Rattle.test_report_run_notes.specs.Note.{Disagrees, NoteView, StrayEnds, note_view}
+use Rattle.test_report_run_notes.specs.Note.{Contradicts, NoteView, StrayEnds, note_view}
 use Rattle.test_report_run.specs.Run.{RunState, Step, run_state, step, stray_counted, stray_ends, stray_test}
 use Rattle.test_report_run.proofs.run.TestRun.on_stray_end.Goals as goal
 
 failed : (r : RunState) (e : TestEndView) → e.result ≡ Failed
-    → step (stray_counted r e) (stray_test r e ++ Disagrees (StrayEnds e.name e.result) ∷ []) ≡ stray_ends r e
+    → step (stray_counted r e) (stray_test r e ++ Contradicts (StrayEnds e.name e.result) ∷ []) ≡ stray_ends r e
 failed r e is = rw is refl
 
 ignored : (r : RunState) (e : TestEndView) → e.result ≡ Ignored → step (stray_counted r e) (stray_test r e) ≡ stray_ends r e
@@ -24,7 +24,7 @@ returns-in_ok-push_stray_end-in-Failed-clause-tells c =
     let r = run_state c.args.self.now in
     let e = test_end_view c.args.name.now c.args.end c.args.details in
     let notes = map note_view c.args.notes.now.items in
-    let stray = Disagrees (StrayEnds c.args.name.now c.args.end) ∷ [] in
+    let stray = Contradicts (StrayEnds c.args.name.now c.args.end) ∷ [] in
     c.in_ok-push_stray_end-in-Failed.ensures ∙ ap (λ (all : List NoteView). all ++ stray) c.in_ok-count_stray-in-Failed.ensures.tells
     ∙ append_assoc notes (stray_test r e) stray ∙ ap (λ (t : Step). notes ++ t.notes) (failed r e c.in-Failed.is)
 
