@@ -1,7 +1,8 @@
 //! How the forms show what lines of programs, and of the command that runs them, say.
 
-use crate::common::{Folder, end_of_text, run};
+use crate::common::{Folder, end_of_text, run, start, wait_for};
 use std::fs;
+use std::io::Write;
 
 /// The first line of a run.
 const STARTED: &str = r#"{"type":"command","event":"started"}
@@ -12,6 +13,10 @@ const LEDGER: &str = r#"{"type":"program","event":"started","name":"ledger"}
 {"type":"suite","event":"started","test_count":3}
 {"type":"test","event":"started","name":"adds"}
 {"type":"test","event":"started","name":"parses"}
+"#;
+
+/// A test of it has run for a minute.
+const SLOW: &str = r#"{"type":"test","event":"timeout","name":"parses"}
 "#;
 
 /// A program that passes.
@@ -383,8 +388,7 @@ fn the_text_says_once_that_a_program_with_its_own_harness_has_no_report() {
 
 #[test]
 fn a_test_that_has_run_for_a_minute_is_named_if_nothing_shows_progress() {
-    let slow = "{\"type\":\"test\",\"event\":\"timeout\",\"name\":\"parses\"}\n";
-    let parts = [STARTED, LEDGER, slow, &ended("\"signal\":9", ""), FAILED];
+    let parts = [STARTED, LEDGER, SLOW, &ended("\"signal\":9", ""), FAILED];
     let line = "SLOW [> 60s] ledger parses\n";
     assert!(report("text", &parts).starts_with(line));
     for options in [&["--progress", "always"][..], &["--status-level", "none"]] {
@@ -396,11 +400,22 @@ fn a_test_that_has_run_for_a_minute_is_named_if_nothing_shows_progress() {
     }
     // A file without lines of programs is read when all is over.
     let (_, suite) = LEDGER.split_once('\n').expect("a program starts");
-    assert!(!report("text", &[suite, slow]).contains("SLOW"));
-    let command = ["--others", "never", "--", "printf", "%s\\n%s", suite, slow];
+    assert!(!report("text", &[suite, SLOW]).contains("SLOW"));
+    let command = ["--others", "never", "--", "printf", "%s\\n%s", suite, SLOW];
     let output = run("test-report", &command, b"");
     let text = String::from_utf8_lossy(&output.stdout);
     assert!(text.starts_with("SLOW [> 60s] parses\n"), "{text}");
+}
+
+#[test]
+fn a_test_that_has_run_for_a_minute_is_named_while_it_runs() {
+    let mut running = start(&["--progress", "never"]);
+    let lines = [STARTED, LEDGER, SLOW].concat();
+    let written = running.stdin.write_all(lines.as_bytes());
+    written.expect("the program reads");
+    wait_for(running.stdout, "SLOW [> 60s] ledger parses\n");
+    drop(running.stdin);
+    running.child.wait().expect("the program ends");
 }
 
 #[test]
@@ -523,9 +538,15 @@ fn many_errors_of_the_compiler_take_time_in_proportion() {
         assert!(text.contains(&wanted), "{}", &text[text.len() - 200..]);
         start.elapsed()
     };
-    // If each error were compared with each other one, eight times as many would take about fifty times as long.
+    // If each error were compared with each other one, eight times as many would take about forty times as long.
     // On a busy machine a single pair of times says little.
-    assert!((0..5).any(|_| time_of(24_000) < 20 * time_of(3_000)));
+    let mut pairs = Vec::new();
+    let is_linear = (0..5).any(|_| {
+        let (few, many) = (time_of(3_000), time_of(24_000));
+        pairs.push((few, many));
+        many < 14 * few
+    });
+    assert!(is_linear, "{pairs:?}");
 }
 
 #[test]

@@ -321,7 +321,7 @@ impl Report {
             notes = self.held.keep(notes);
         }
         if notes.is_empty() {
-            return Ok(());
+            return self.write_text(output);
         }
         let panics = self.panics.take_of(&notes);
         self.show(&notes, &panics, output)

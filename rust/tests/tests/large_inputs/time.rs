@@ -31,11 +31,14 @@ fn time_of(count: usize, last: &[u8], is_found: bool) -> Duration {
 /// Asserts that the time grows with the size of the input, and not with its square. The limit is three times as high as
 /// needed. On a busy machine a single pair of times says little.
 fn assert_linear(last: &[u8], is_found: bool) {
-    let is_linear = |_| {
+    let mut pairs = Vec::new();
+    let is_linear = (0..5).any(|_| {
         let small = time_of(COUNT / SHARE, last, is_found);
-        time_of(COUNT, last, is_found) <= small * 3 * SHARE as u32
-    };
-    assert!((0..5).any(is_linear));
+        let large = time_of(COUNT, last, is_found);
+        pairs.push((small, large));
+        large <= small * 3 * SHARE as u32
+    });
+    assert!(is_linear, "{pairs:?}");
 }
 
 #[test]
