@@ -5,9 +5,9 @@ crate from nothing and keeps no proof, and tries each must-fail edit by a check 
 programs has a new folder, out/incremental, in which the prover keeps what it proves. So the crate is proved from nothing
 as well. A library is built with its proofs, and a verdict may say that it was reached over such a folder. The edits of a
 crate are tried by tools/must-fail over that folder, while other crates are proved. As many crates are proved at the same
-time as there are processors and memory, each by one process, and only the largest by one for each processor. Others yield
-to the largest, to those that it waits for, and to those that wait for it. All else is as in `rt ci`: the words that it
-refuses, contracts that no call can meet, both compilers, and the runs of programs.
+time as there are processors and memory. One process proves each crate, except the largest: it has that many processes of
+its own. Crates that neither wait for the largest nor are waited for by it yield to the others, and so do edits. All else is
+as in `rt ci`: the words that it refuses, contracts that no call can meet, both compilers, and the runs of programs.
 
 There are two forms of `rt`. One of them has a store of what earlier runs passed, and takes `--anew`. What this tool passes
 is then kept there for later runs of this tool, and not for a plain `rt ci`. With the other form each run proves all.
@@ -93,9 +93,9 @@ def with_jobs(command, jobs):
 
 
 def yielding(call, *arguments):
-    """Calls a function in a thread that yields to other work, as do the processes that it starts."""
-    # On Linux, each thread has a priority of its own.
-    with ThreadPoolExecutor(1, initializer=os.nice, initargs=(10,)) as pool:
+    """Calls a function in a thread that yields to other work, as do the processes that it starts. Returns its result."""
+    # On Linux, each thread has a priority of its own. The work of cargo beside the proofs has a lower one: see `check`.
+    with ThreadPoolExecutor(1, initializer=os.nice, initargs=(5,)) as pool:
         return pool.submit(call, *arguments).result()
 
 
@@ -125,21 +125,21 @@ def main(origin, *words):
     rt.edits_of = lambda crate: (must_fail.paths_of(crate.name), [])
     largest = max(crate_list.used(), key=must_fail.size_of)
 
-    def prove_in_turn(crate, *commands):
+    def prove_by_priority(crate, *commands):
         if crate.name in crate_list.below(largest) or largest in crate_list.below(crate.name):
             return prove(crate, *commands)
         return yielding(prove, crate, *commands)
 
     def prove_and_keep(crate, *commands):
         if crate.is_program:
-            return prove_in_turn(crate, *commands)
+            return prove_by_priority(crate, *commands)
         # A check that was killed is made once more.
         shutil.rmtree(compiler.kept(crate.name), ignore_errors=True)
         # A library that holds only its statements cannot be built over such a folder.
         plain = [[word for word in command if word != "--statements"] for command in commands]
         jobs = lanes if crate.name == largest else 1
         kept = ["--incremental", compiler.kept(crate.name)]
-        return prove_in_turn(crate, *([*with_jobs(command, jobs), *kept] for command in plain))
+        return prove_by_priority(crate, *([*with_jobs(command, jobs), *kept] for command in plain))
 
     def add_edits(tasks, crate, paths, _first, waits, is_well, kept):
         edits = Edits(rt, must_fail, kept, crate, [os.path.basename(path) for path in paths])
@@ -153,7 +153,8 @@ def main(origin, *words):
         return lambda _given: [edits.results[name] for name in edits.names], lambda: edits.earlier
 
     def try_each(crate, paths, _flags):
-        results = {name: result for name, *result in must_fail.results_of(crate.name, map(os.path.basename, paths))}
+        tried = must_fail.results_of(crate.name, map(os.path.basename, paths))
+        results = {name: result for name, *result in yielding(list, tried)}
         return [results[os.path.basename(path)] for path in paths]
 
     end_checks_on_signals(must_fail)
