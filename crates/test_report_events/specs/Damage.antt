@@ -1,4 +1,4 @@
--- Text that says that a test or a suite failed, though it is no event.
+-- Text that says that a test, a suite or a benchmark failed, though it is no event.
 use Rattle.std.specs.Prelude.{◌≡◌, ◌⊎◌, ◌++◌, ◌∷◌, ℕ, List, Option, Some, None, codes}
 use Rattle.test_report_events.specs.Event.{DamagedLine, EventView}
 use Rattle.test_report_events.specs.Plain.{line_text}

@@ -56,7 +56,7 @@ pub record EarlyEndView : Type 0 where
   pub overflowed : List (List ℕ)
   pub panicked : List (List ℕ)
 
--- why the lines of programs contradict each other
+-- what is wrong with the lines of programs
 pub data ProgramFaultView : Type 0 where
   -- the program with this name ended so, and nothing says why
   EndsUnexplained : List ℕ → ProgramEnd → ProgramFaultView
@@ -103,7 +103,7 @@ pub data EventView : Type 0 where
   Cancels : CancelReason → EventView
   -- all open suites end early, and the tests outside of a suite
   AllEndEarly : EarlyEndView → EventView
-  -- the lines of programs contradict each other
+  -- something is wrong with the lines of programs
   ProgramContradicts : ProgramFaultView → EventView
 
 -- the text of a key: `CRATE::BINARY`, and `@stress-N` if there is an index

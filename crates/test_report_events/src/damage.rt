@@ -1,4 +1,4 @@
-//! Text that is no event, and says that a test or a suite failed.
+//! Text that is no event, and says that a test, a suite or a benchmark failed.
 
 ghost use Rattle.std.specs.Prelude.{◌↔◌, ◌<◌, IfOk, IsTrue, length, option_map};
 ghost use Rattle.test_report_events.specs.Content as kept;

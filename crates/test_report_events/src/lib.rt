@@ -7,7 +7,7 @@
 //! returns what it says.
 //!
 //! The lines are those of Rust's test harness (`--format json`), of cargo nextest (`--message-format
-//! libtest-json`) and of cargo. Any bytes are accepted, and they need not be UTF-8.
+//! libtest-json` or `libtest-json-plus`) and of cargo. Any bytes are accepted, and they need not be UTF-8.
 //!
 //! This function returns the number of tests that the first line of a suite announces:
 //!

@@ -96,8 +96,8 @@ impl Line {
         self.content.event()
     }
 
-    /// Returns `Event::Damaged` if the text of the line that is no event says that a test or a suite failed. This
-    /// event comes after the other events of the line.
+    /// Returns `Event::Damaged` if the text of the line that is no event says that a test, a suite or a benchmark failed.
+    /// This event comes after the other events of the line.
     pub fn damage(&self) -> Option<Event<'_>>
         ensures { option_map event_view result ≡ kept.damage_of self.now }
     {

@@ -1,4 +1,4 @@
-//! Recognizes, without the JSON parser, the lines that start tests. They are about half of the lines of a run.
+//! Recognizes, without the JSON parser, most lines that start tests. Such lines are about half of the lines of a run.
 
 ghost use Rattle.std.specs.Prelude.{◌≡◌, ◌↔◌, ◌++◌, IfSome, IsTrue};
 ghost use Rattle.std.specs.List.{AllPass};

@@ -13,7 +13,7 @@ use Rattle.test_report_events.specs.Event.{EventView, SuiteEndView, TestEndView,
 use Rattle.test_report_events.specs.declared.event.TestResult.{TestResult}
 use Rattle.test_report_events.specs.declared.event.TestResult.TheVariants.{Ok, Failed, Ignored}
 use Rattle.test_report_events.specs.declared.program.ProgramEnd.{ProgramEnd}
-use Rattle.test_report_run_notes.specs.Note.{Contradicts, ContradictionView, IsDamaged, OfProgram, NoteView, StrayEnds, StraySuiteEnds}
+use Rattle.test_report_run_notes.specs.Note.{ContradictionView, Contradicts, IsDamaged, OfProgram, NoteView, StrayEnds, StraySuiteEnds}
 use Rattle.test_report_run_notes.specs.declared.note.RunEnd.{RunEnd}
 use Rattle.test_report_laws.proofs.CargoReports.{OnlyReports, only-cargo, only-settled_at, only-told, reports-none}
 use Rattle.test_report_laws.proofs.EndSums.{last_by}

@@ -23,7 +23,7 @@ use Rattle.test_report_run.specs.Others.{after_failure}
 use Rattle.test_report_run.specs.Suite.{SuiteState}
 use Rattle.test_report_run.specs.FileEnd.{after_file, file_notes, held_told}
 use Rattle.test_report_run.specs.Over.{nothing_known}
-use Rattle.test_report_run.specs.Run.{RunSettings, RunState, Step, after, cargo_fails, contradicts, early_end, is_cause, is_explained, notes_at, report_told, run_start, settled, settled_at, step, told, with_report}
+use Rattle.test_report_run.specs.Run.{RunSettings, RunState, Step, after, cargo_contradicts, cargo_fails, early_end, is_cause, is_explained, notes_at, report_told, run_start, settled, settled_at, step, told, with_report}
 
 -- a command that has started is known up to the end of the file
 of-settled : (r : RunState) (e : EventView) → (ready r e).of_command ≡ r.of_command
@@ -31,7 +31,7 @@ of-settled r e = ap (λ (x : RunState). x.of_command) (only-settled_at r e).run_
 
 of-told : (r : RunState) (e : EventView) → (told r e).run.of_command ≡ false → r.of_command ≡ false
 of-told r (HeadingLine name path) h = h
-of-told r (CargoFails f line plain) h = cond_both (contradicts r f) (with_report r plain) r
+of-told r (CargoFails f line plain) h = cond_both (cargo_contradicts r f) (with_report r plain) r
     (λ (x : RunState). (record x { others = after_failure r.others }).of_command ≡ false → r.of_command ≡ false) (λ _ h. h) (λ _ h. h) h
 of-told r (Prints line plain) h = h
 of-told r (DamagedLine text) h = h
@@ -72,7 +72,7 @@ held-ready r e i = cond_both (is_after_report e) (settled r (is_event e)) (step 
 
 held-told : (r : RunState) (e : EventView) → (told r e).run.held ≡ r.held
 held-told r (HeadingLine name path) = refl
-held-told r (CargoFails f line plain) = cond_both (contradicts r f) (with_report r plain) r
+held-told r (CargoFails f line plain) = cond_both (cargo_contradicts r f) (with_report r plain) r
     (λ (x : RunState). (record x { others = after_failure r.others }).held ≡ r.held) (λ _. refl) (λ _. refl)
 held-told r (Prints line plain) = refl
 held-told r (DamagedLine text) = refl
@@ -171,7 +171,7 @@ not-both false explained h k = absurd (cc)
 cargo-waits : (r : RunState) (f : CargoFailure) (line : List ℕ) → r.suites ≡ [] → 0 < last_waits (cargo_fails r f line) + r.causes
 cargo-waits r f line none =
     let empty : (length r.suites == 0) ≡ true = ap (λ (suites : List SuiteState). length suites == 0) none in
-    cond_both (contradicts r f) (with_report r line) r
+    cond_both (cargo_contradicts r f) (with_report r line) r
     (λ (x : RunState). 0 < last_waits (record x { others = after_failure r.others }) + r.causes) (λ _. omega arith)
     (λ quiet. omega (arith, some-cause r f (not-both (length r.suites == 0) (is_explained r f) empty quiet)))
 

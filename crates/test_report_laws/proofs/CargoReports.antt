@@ -13,7 +13,7 @@ use Rattle.test_report_laws.proofs.Sums.{sum-map, sum-none, sum-ones}
 use Rattle.test_report_run.specs.Events.{is_after_report, is_event}
 use Rattle.test_report_run.specs.Others.{after_failure}
 use Rattle.test_report_run.specs.FileEnd.{at_end, held_reports, held_told, reports_told}
-use Rattle.test_report_run.specs.Run.{RunState, Step, cargo_fails, contradicts, notes_at, report_told, settled, settled_at, step, told, with_report}
+use Rattle.test_report_run.specs.Run.{RunState, Step, cargo_contradicts, cargo_fails, notes_at, report_told, settled, settled_at, step, told, with_report}
 
 -- the run with other failures of cargo that are not known yet, and another number of causes
 abbrev pub with_reports : RunState → Option CargoView → List CargoView → ℕ → RunState
@@ -97,7 +97,7 @@ only-told r = only-both r (settled r false) (held_told (settled r false).run) (o
 -- a failure of cargo
 pub only-cargo : (r : RunState) (f : CargoFailure) (line : List ℕ)
     → OnlyReports (record r { others = after_failure r.others; lacked_events = (cargo_fails r f line).lacked_events }) (step (cargo_fails r f line) [])
-only-cargo r f line = cond_both (contradicts r f) (with_report r line) r
+only-cargo r f line = cond_both (cargo_contradicts r f) (with_report r line) r
     (λ (x : RunState). OnlyReports (record r { others = after_failure r.others; lacked_events = x.lacked_events })
     (step (record x { others = after_failure r.others }) []))
     (λ _. record {
@@ -176,11 +176,12 @@ none-reported r heard = by-report r.reported refl
     by-report : (o : Option CargoView) → r.reported ≡ o → (option_map_or (report_told r heard) o (step r [])).run.reported ≡ None
     by-report None is = is
     by-report (Some report) is = cond_both r.of_command (step (record r { reported = None; held = r.held ++ whole r heard report ∷ [] }) [])
-        (step (record r { reported = None }) (Contradicts (CargoSays (whole r heard report)) ∷ [])) (λ (t : Step). t.run.reported ≡ None) (λ _. refl) (λ _. refl)
+        (step (record r { reported = None }) (Contradicts (CargoSays (whole r heard report)) ∷ []))
+        (λ (t : Step). t.run.reported ≡ None) (λ _. refl) (λ _. refl)
 
 pub counted-cargo : (r : RunState) (f : CargoFailure) (line : List ℕ) → r.reported ≡ None → Counted r (step (cargo_fails r f line) []) 0
 counted-cargo r f line none =
     let waits = ap if_some none in
-    cond_both (contradicts r f) (with_report r line) r
+    cond_both (cargo_contradicts r f) (with_report r line) r
     (λ (x : RunState). Counted r (step (record x { others = after_failure r.others }) []) 0)
     (λ _ known low. omega (arith, low, waits)) (λ _ known low. omega (arith, low))

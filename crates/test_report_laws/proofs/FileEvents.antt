@@ -68,7 +68,7 @@ none-between : (r : RunState) (files : List (List EventView)) → r.has_event �
 none-between r [] is = is
 none-between r (file ∷ files) is = none-between (run_after_file r file) files refl
 
--- a file without events, failed tests and contradictions is a contradiction
+-- there is a contradiction if a file has no event, no failed test and no other contradiction
 one-if-silent : (has : Bool) (before now : ℕ) (command : Option CommandView) (file : Option (List ℕ)) → has ≡ false → now ≡ 0 → command ≡ None
     → sum_by weight (if not has && (not (nat_lt before now) && not (ended_well command || was_not_started command))
     then Contradicts (HasNoEvent file) ∷ [] else []) ≡ 1
@@ -85,7 +85,7 @@ silent-cause r none alone zero =
     (ap (λ (x : RunState). x.command) same ∙ (ap (λ (x : RunState). x.command) told ∙ alone)) in
     omega (arith, one, end-parts weight r)
 
--- a command that did not end with status 0 is a contradiction if there is no failed test and no other contradiction
+-- the end of a command with another status than 0 is a contradiction if there is no failed test and no other contradiction
 not-zero : (code : ℕ) → WithStatus code ≢ WithStatus 0 → (code == 0) ≡ false
 not-zero code other = elim (code == 0) as (λ b. (code == 0) ≡ b → b ≡ false) [
   | true ↦ λ is. absurd (other (ap WithStatus (eqb-true code 0 is)))

@@ -10,7 +10,7 @@ use Rattle.test_report_events.specs.Event.{AllEndEarly, EventView, SuiteEndView,
 use Rattle.test_report_events.specs.declared.event.TestResult.{TestResult}
 use Rattle.test_report_events.specs.declared.event.TestResult.TheVariants.{Ok, Failed, Ignored}
 use Rattle.test_report_events.specs.declared.program.ProgramEnd.{ProgramEnd}
-use Rattle.test_report_run_notes.specs.Note.{Contradicts, ContradictionView, Fails, FlakyEnds, HasNoEnd, IsNotRun, IsSkipped, NoteView, Passes, StrayEnds, StraySuiteEnds, SuiteIs, SuiteNoteView, TestIs, TestNoteView}
+use Rattle.test_report_run_notes.specs.Note.{ContradictionView, Contradicts, Fails, FlakyEnds, HasNoEnd, IsNotRun, IsSkipped, NoteView, Passes, StrayEnds, StraySuiteEnds, SuiteIs, SuiteNoteView, TestIs, TestNoteView}
 use Rattle.test_report_laws.proofs.Books.{IsIn, position-in}
 use Rattle.test_report_laws.proofs.CargoReports.{only-settled_at, ready, reports-none}
 use Rattle.test_report_laws.proofs.EndSums.{early_rest, last_by, of-numbers, sum-crashed}
@@ -124,7 +124,7 @@ outside note = 0
 not-outside : (t : TestNoteView) → was_stopped t.outcome ≡ false → outside (TestIs t) ≡ 0
 not-outside t ran = ap (λ (b : Bool). cond (b && is_none t.suite) 1 0) ran
 
--- the two numbers of tests that were not run, and where one of these was stopped outside of a suite, there is a failed test or a contradiction
+-- the two numbers of tests that were not run are equal, and if one of these was stopped outside of a suite, there is a failed test or a contradiction
 record Same (notes : List NoteView) : Type 0 where
   same : sum_by named_not_run notes ≡ sum_by not_run_of notes
   known : 0 < sum_by outside notes → 0 < count_by is_cause notes

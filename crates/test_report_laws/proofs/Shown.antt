@@ -1,4 +1,4 @@
--- What becomes known where lines contradict each other.
+-- What becomes known if lines contradict each other.
 use Rattle.std.proofs.Common.{◌≡◌, ◌≢◌, ◌∙◌, ℕ, List, [], ◌∷◌, ◌+◌, ◌<◌, Bool, true, false, cond, Option, Some, None, refl, arith, length, subst, sym, take}
 use Rattle.std.specs.List.{sum_by}
 use Rattle.std.specs.Option.{option_map_or}
@@ -16,7 +16,7 @@ use Rattle.test_report_laws.proofs.Sums.{sum-none}
 use Rattle.test_report_laws.proofs.Tallies.{count-of, crashed_weight, finished-counts, finished-of, finished_weight, passed-counts, passed_weight}
 use Rattle.test_report_run.specs.Running.{RunningView}
 use Rattle.test_report_run.specs.LastLine.{is_contradicted}
-use Rattle.test_report_laws.specs.Run.{Agrees, EarlyEndShows, LastLineAgrees, StrayEndShows, crashed_in, contradictions_in, failed_in, fails_by, has_passed, is_crash, passed_in}
+use Rattle.test_report_laws.specs.Run.{Agrees, EarlyEndShows, LastLineAgrees, StrayEndShows, contradictions_in, crashed_in, failed_in, fails_by, has_passed, is_crash, passed_in}
 use Rattle.test_report_run.specs.Others.{OthersView}
 use Rattle.test_report_run.specs.Over.{crash_of, crashed_of, early_by, early_contradictions, explained_of, failed_note, flaky_note, last_contradiction, last_state, lost, skipped_note, stopped_note, stopped_of}
 use Rattle.test_report_run.specs.Run.{RunState, counts_tests, ended_at, is_contradiction, open_suite, step, stray_suite_notes}

@@ -17,7 +17,7 @@ use Rattle.test_report_laws.proofs.Shown.{early-shows, last-agrees, stray-one}
 use Rattle.test_report_laws.proofs.Sound.{all-known, all-sound, failed-rules}
 use Rattle.test_report_laws.proofs.Sums.{one-most}
 use Rattle.test_report_laws.proofs.Weights.{Keeps, has-number, keeps-line, numbered-end, numbered-line, numbered-ready, numbered-reported, ready-suites, unnumbered, weigh, weight_of}
-use Rattle.test_report_laws.specs.Run.{FailedVerdictShows, IsClean, IsSound, crashed_in, contradictions_in, failed_in, failed_verdicts_of, fails_by, is_crash, is_test, says_failed_verdict}
+use Rattle.test_report_laws.specs.Run.{FailedVerdictShows, IsClean, IsSound, contradictions_in, crashed_in, failed_in, failed_verdicts_of, fails_by, is_crash, is_test, says_failed_verdict}
 use Rattle.test_report_run.specs.Others.{OthersView}
 use Rattle.test_report_run.specs.Over.{EarlyEnd, early_notes, last_notes, nothing_known}
 use Rattle.test_report_run.specs.Running.{RunningView}
@@ -31,7 +31,7 @@ use Rattle.test_report_laws.proofs.Types.{Said}
 abbrev failing : Option ℕ → Said → Option ℕ → ℕ
 failing number said count = cond said.failed_verdict 1 0
 
--- for a failed verdict there is a failed test, a contradiction, or an open suite that has one
+-- if there is a failed verdict, there is a failed test, a contradiction, or an open suite with a failed verdict
 abbrev Seen : ℕ → List NoteView → RunState → Type 0
 Seen n notes r = 0 < n → 0 < count_by is_cause notes + weight_of failing r
 

@@ -50,7 +50,7 @@ ended_well end p = is_zero end && (p.ran || p.may_be_empty)
 abbrev pub causes_in : List NoteView → ℕ
 causes_in notes = count_by is_cause notes
 
--- what is kept of the program that runs is known: if something failed, crashed, ended early or was contradicted since it started, one of these notes is a cause
+-- what is kept of the program that runs is known: if a failed test, a contradiction or an early end became known since it started, one of the notes is a cause
 abbrev pub IsKnown : List NoteView → Option ProgramView → Type 0
 IsKnown notes program = IfSome program (λ p. (p.failed || p.broke) ≡ true → 0 < causes_in notes)
 

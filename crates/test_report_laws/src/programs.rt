@@ -12,8 +12,8 @@ pub fn lines_are_events()
     ensures runs { RunsAreFiles }
 {}
 
-/// If a program ended with another status than 0, or ran no test and may not be empty, a failed test or a contradiction is
-/// known when the program is over. So it is if a program ended with another status than 0 and did not start. If a line
+/// If a program ended with another status than 0, or ran no test and may not be empty, a failed test or a contradiction
+/// is known when the program is over. So it is if a program ended with another status than 0 and did not start. If a line
 /// says that a program ended in one of these ways, where such lines count, the outcome is neither `Success` nor
 /// `NoTestsRun`.
 pub fn failed_programs_show()

@@ -10,7 +10,7 @@ use Rattle.run_events_stats.specs.declared.stats.RunStats.{RunStats}
 use Rattle.test_report_events.specs.Event.{EarlyEndView}
 use Rattle.test_report_events.specs.declared.program.ProgramEnd.{ProgramEnd}
 use Rattle.test_report_run_notes.specs.Finish.{view_of_finish}
-use Rattle.test_report_run_notes.specs.Note.{CrashView, ContradictionView, Contradicts, EndsEarly, FailureView, Fails, HasCrashed, HasNoEnd, IsFlaky, IsNotRun, IsSkipped, IsStopped, KindView, NoteView, OutcomeView, Passes, SaysOther, StartsOutside, SuiteIs, WasCancelled, failed_of}
+use Rattle.test_report_run_notes.specs.Note.{ContradictionView, Contradicts, CrashView, EndsEarly, FailureView, Fails, HasCrashed, HasNoEnd, IsFlaky, IsNotRun, IsSkipped, IsStopped, KindView, NoteView, OutcomeView, Passes, SaysOther, StartsOutside, SuiteIs, WasCancelled, failed_of}
 use Rattle.test_report_run_notes.specs.declared.finish.Finish.TheVariants as finish
 use Rattle.test_report_run.specs.LastLine.{explanation_of, is_contradicted}
 use Rattle.test_report_run.specs.Others.{OthersView, cause_after, last_prints_from, prints_from}
@@ -150,11 +150,11 @@ number_notes s rest =
     option_map_or (λ name. if nat_lt 0 not_run then IsNotRun name not_run initial ∷ [] else []) (suite_name s) []
     ++ SuiteIs record { name = suite_name s; stats = s.stats; skipped = rest.skipped; not_run = not_run; crashed = s.crashed; time = rest.time } ∷ []
 
--- a suite with this name that ends early is a contradiction, unless the run is cancelled
+-- the contradiction of a suite with this name that ends early: in a cancelled run, that the run was cancelled
 abbrev pub early_contradiction : SuiteState → Option ProgramEnd → List ℕ → ContradictionView
 early_contradiction s end name = option_map_or WasCancelled s.cancel (EndsEarly name end)
 
--- a suite that ends early is a contradiction if none of its tests crashed, and so are tests that started outside of a suite
+-- the early end of a suite is a contradiction if none of its tests crashed, and so are tests that started outside of a suite
 abbrev pub early_contradictions : SuiteState → Option ProgramEnd → ℕ → List NoteView
 early_contradictions s end crashed =
     option_map_or (λ name. if crashed == 0 then Contradicts (early_contradiction s end name) ∷ [] else []) (suite_name s)
@@ -197,7 +197,7 @@ last_state s e tests = record s {
   flaky = [];
 }
 
--- a suite is a contradiction if its last line says other numbers than those of its tests
+-- the last line of a suite is a contradiction if it says other numbers than those of its tests
 abbrev pub last_contradiction : SuiteState → List NoteView
 last_contradiction s =
     let said = numbers_of s.said in

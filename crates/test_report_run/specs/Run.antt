@@ -309,7 +309,7 @@ stray_counted r e =
 abbrev pub stray_test : RunState → TestEndView → List NoteView
 stray_test r e = stray_notes (suite_at r (suite_place r e.name)) (stray_over r e) e
 
--- a test ends that was not running: it counts if it failed or was ignored, and is a contradiction unless it was ignored
+-- a test ends that was not running: it counts if it failed or was ignored, and its end is a contradiction unless it was ignored
 abbrev pub stray_ends : RunState → TestEndView → Step
 stray_ends r e = elim e.result as (λ _. Step) [
   | Ok ↦ step r (Contradicts (StrayEnds e.name e.result) ∷ [])
@@ -352,8 +352,8 @@ is_explained r Tests = nat_lt r.causes_at_cargo r.causes
 is_explained r Run = nat_lt r.causes_at_file r.causes
 
 -- a failure of cargo is a contradiction if no suite is open and nothing explains it
-abbrev pub contradicts : RunState → CargoFailure → Bool
-contradicts r f = length r.suites == 0 && not (is_explained r f)
+abbrev pub cargo_contradicts : RunState → CargoFailure → Bool
+cargo_contradicts r f = length r.suites == 0 && not (is_explained r f)
 
 -- a failure of cargo says that tests failed, and no line of the file was an event of a harness. Only the first one counts
 abbrev pub lacks_events : RunState → List ℕ → Bool
@@ -369,7 +369,7 @@ with_report r line = record r {
 
 -- a failure of cargo
 abbrev pub cargo_fails : RunState → CargoFailure → List ℕ → RunState
-cargo_fails r f line = record (if contradicts r f then with_report r line else r) { others = after_failure r.others }
+cargo_fails r f line = record (if cargo_contradicts r f then with_report r line else r) { others = after_failure r.others }
 
 -- a print
 abbrev pub printed : RunState → List ℕ → List ℕ → RunState

@@ -6,7 +6,7 @@ ghost use Rattle.test_report_run_notes.specs.Note.{Contradicts, contradiction_vi
 use std::alloc::AllocError;
 use test_report_run_notes::note::{Contradiction, Note};
 
-/// Adds a contradiction.
+/// Adds a contradiction. The caller counts it.
 pub(crate) fn push_contradiction(
     contradiction: Contradiction,
     notes: &mut Vec<Note>,

@@ -9,9 +9,9 @@ use Rattle.test_report_events.specs.declared.program.ProgramEnd.{ProgramEnd}
 use Rattle.test_report_run_notes.specs.declared.note.CargoReport.{CargoReport}
 use Rattle.test_report_run_notes.specs.declared.note.CommandEnd.{CommandEnd}
 use Rattle.test_report_run_notes.specs.declared.note.CommandEnd.TheVariants as command
-use Rattle.test_report_run_notes.specs.declared.note.Crash.{Crash}
 use Rattle.test_report_run_notes.specs.declared.note.Contradiction.{Contradiction}
 use Rattle.test_report_run_notes.specs.declared.note.Contradiction.TheVariants as contradiction
+use Rattle.test_report_run_notes.specs.declared.note.Crash.{Crash}
 use Rattle.test_report_run_notes.specs.declared.note.Failure.{Failure}
 use Rattle.test_report_run_notes.specs.declared.note.FailureKind.{FailureKind}
 use Rattle.test_report_run_notes.specs.declared.note.FailureKind.TheVariants as kind
@@ -179,7 +179,7 @@ command_view (command.Signal number) = BySignal number
 command_view (command.Status code) = WithStatus code
 command_view (command.Error code words) = WithError code (string_bytes words)
 
--- why the lines of programs contradict each other
+-- what is wrong with the lines of programs
 abbrev pub fault_view : ProgramFault → ProgramFaultView
 fault_view (fault.Unexplained program end) = EndsUnexplained (string_bytes program) end
 fault_view (fault.NoTests program) = RunsNoTest (string_bytes program)

@@ -12,7 +12,7 @@ use test_report_events::program::ProgramEnd;
 
 /// A fact about a run that a line, or the end of a file, makes known.
 pub enum Note {
-    /// A test passed, failed or was skipped.
+    /// A test passed, failed, was skipped or was stopped.
     Test(TestNote),
 
     /// A test passed after several attempts. Whether it counts as passed becomes known when its suite ends.
@@ -25,8 +25,8 @@ pub enum Note {
     /// Some tests of a suite did not run.
     NotRun(NotRun),
 
-    /// A suite is over. The end of each file also makes one without a name known: the numbers of the tests outside of
-    /// suites, even if there are none.
+    /// A suite is over. The end of each file, and the early end of a program, also make one without a name known: the
+    /// numbers of the tests outside of suites, even if there are none.
     Suite(SuiteNote),
 }
 
@@ -42,7 +42,7 @@ impl Drop for Note {
     }
 }
 
-/// A test, and whether it passed, failed or was skipped.
+/// A test, and whether it passed, failed, was skipped or was stopped.
 #[derive(Drop)]
 pub struct TestNote {
     /// The name of the suite of the test, or `None` if the test started outside of a suite. The notes of a suite

@@ -92,7 +92,7 @@ fn a_failure_of_cargo_becomes_known_at_the_next_heading() {
 }
 
 #[test]
-fn a_command_that_was_not_started_is_a_contradiction() {
+fn the_end_of_a_command_that_was_not_started_is_a_contradiction() {
     let error = "No such file or directory (os error 2)";
     let end = CommandEnd::NotStarted {
         error: String::from(error),
@@ -105,7 +105,7 @@ fn a_command_that_was_not_started_is_a_contradiction() {
 }
 
 #[test]
-fn a_command_that_a_signal_ended_is_a_contradiction() {
+fn the_end_of_a_command_that_a_signal_ended_is_a_contradiction() {
     let found = command_ends(REFUSED, &CommandEnd::Signal { number: 9 });
     let [
         cargo @ Contradiction::Cargo(_),

@@ -110,7 +110,8 @@ fn push_reports(
     notes: &mut Vec<Note>,
 ) -> Result<(), AllocError>
     ensures { OnOk result (map note_view notes.new.items ≡ map note_view notes.old.items
-        ++ map (λ report. Contradicts (CargoSays report)) (map (ends.at_end has_event) (map cargo_view reports.items))) }
+        ++ map (λ report. Contradicts (CargoSays report))
+        (map (ends.at_end has_event) (map cargo_view reports.items))) }
 {
     for mut report in reports {
         report.lacks_events = report.lacks_events && !has_event;
@@ -119,8 +120,8 @@ fn push_reports(
     Ok(())
 }
 
-/// Returns true if a command could not be started, ended by a signal, or ended with a status above 0 although `causes` is
-/// 0. `causes` is the number of failed tests and contradictions.
+/// Returns true if a command could not be started, ended by a signal, or ended with a status above 0 although `causes`,
+/// the number of failed tests and contradictions, is 0.
 fn command_fails(causes: usize, end: &CommandEnd) -> bool
     ensures { result ≡ ends.command_fails causes (command_view end.now) }
 {

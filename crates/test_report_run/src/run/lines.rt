@@ -65,7 +65,7 @@ impl TestRun {
     ) -> Result<(), RunError>
         ensures takes { OnOk result (run_state self.new ≡ spec.cargo_fails (run_state self.old) failure plain.now) }
     {
-        let contradicts = self.contradicts(failure);
+        let contradicts = self.cargo_contradicts(failure);
         self.others.on_failure(alloc)?;
         if contradicts {
             let lacks_events = lacks_events(self.has_event, self.lacked_events, plain);
@@ -83,8 +83,8 @@ impl TestRun {
 
     /// Returns true if no suite is open, and no failed test or earlier contradiction explains this failure of cargo
     /// or nextest. A failed build is never explained.
-    fn contradicts(&self, failure: CargoFailure) -> bool
-        ensures { result ≡ spec.contradicts (run_state self.now) failure }
+    fn cargo_contradicts(&self, failure: CargoFailure) -> bool
+        ensures { result ≡ spec.cargo_contradicts (run_state self.now) failure }
     {
         let explained = match failure {
             CargoFailure::Build => false,

@@ -43,8 +43,8 @@ impl TestRun {
         Ok(notes)
     }
 
-    /// Notes that the lines of programs contradict each other. Returns the note of that, which says that the run was
-    /// cancelled if it was.
+    /// Notes what is wrong with the lines of programs. Returns the note of that, which says that the run was cancelled if
+    /// it was.
     ///
     /// Fails if a number of the run does not fit its counter. After an error the run must not be used.
     pub fn on_program_fault(

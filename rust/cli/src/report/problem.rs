@@ -18,7 +18,7 @@ use serde::Serialize;
 use std::borrow::Cow;
 use std::rc::Rc;
 
-/// The kind of a contradiction.
+/// The kind of a contradiction, in JSON and in JUnit XML. Formats keep this older word.
 pub(crate) const CONTRADICTION: &str = "disagreement";
 
 /// The kind of an error of the compiler.

@@ -84,9 +84,9 @@ fn head_behind(place: usize, head: HeadSpan) -> HeadSpan {
 
 /// Returns the last panic head in `bytes`, or `None`: the same head as [`last_panic_head`].
 ///
-/// The search goes from the end to the start, so a panic near the end of long output is found
-/// without reading the bytes before it. It goes window by window: a window begins at a line start
-/// that no head contains, and ends with the last ` panicked at ` before the window after it. So the
+/// The search goes from the end to the start, so a panic near the end of long output is usually
+/// found without reading the bytes before it. It goes window by window: a window begins at a line
+/// start that no head contains, and ends with the last ` panicked at ` before the window after it. So the
 /// first window from the end that has a head has the last one.
 #[must_use]
 pub fn last_head(bytes: &[u8]) -> Option<HeadSpan> {

@@ -1,5 +1,5 @@
 // Made by tools/erase from crates/test_report_events/src/damage.rt. Do not edit.
-//! Text that is no event, and says that a test or a suite failed.
+//! Text that is no event, and says that a test, a suite or a benchmark failed.
 
 use crate::events::content::Content;
 use crate::events::plain::{line_text, without_spaces};

@@ -8,7 +8,7 @@
 //! returns what it says.
 //!
 //! The lines are those of Rust's test harness (`--format json`), of cargo nextest (`--message-format
-//! libtest-json`) and of cargo. Any bytes are accepted, and they need not be UTF-8.
+//! libtest-json` or `libtest-json-plus`) and of cargo. Any bytes are accepted, and they need not be UTF-8.
 
 mod cargo;
 mod content;

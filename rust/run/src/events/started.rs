@@ -1,5 +1,5 @@
 // Made by tools/erase from crates/test_report_events/src/started.rt. Do not edit.
-//! Recognizes, without the JSON parser, the lines that start tests. They are about half of the lines of a run.
+//! Recognizes, without the JSON parser, most lines that start tests. Such lines are about half of the lines of a run.
 
 /// Returns the name of the test that a line starts, if the line is spelt as Rust's harness or nextest spell
 /// it, and the name has no escapes. Any other line has to be parsed.

@@ -31,7 +31,7 @@ pub(crate) struct Program {
     /// True if one of its suites or tests started.
     ran: bool,
 
-    /// True if a test failed or lines contradicted each other since it started.
+    /// True if a failed test or a contradiction became known since it started.
     failed: bool,
 
     /// True if a test crashed or a suite ended early since it started.

@@ -44,9 +44,8 @@ impl Totals {
         Ok(())
     }
 
-    /// Returns the sums and the outcome of the run. `contradictions` is the number of contradictions, of which `cancels`
-    /// say that the run was cancelled. The run failed if there are others, and was cancelled if there are only these and
-    /// nothing failed.
+    /// Returns the sums and the outcome of the run. Of its `contradictions`, `cancels` say that the run was cancelled. The
+    /// run failed if there are others, and was cancelled if there are only these and nothing failed.
     pub(crate) fn end(&self, contradictions: usize, cancels: usize) -> RunEnd {
         let step = RunFailureStep::Test;
         let outcome = if contradictions > cancels {

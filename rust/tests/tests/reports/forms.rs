@@ -106,8 +106,8 @@ fn each_form_has_its_report() {
     assert!(!success);
 }
 
-/// A suite whose end makes known that a test without an end failed, that its last line contradicts its tests, and that two
-/// tests were not run.
+/// A suite whose end makes known that a test without an end failed, that its last line contradicts its tests, and that
+/// two tests were not run.
 const SUITE_END: &str = r#"{"type":"suite","event":"started","test_count":4}
 {"type":"test","event":"started","name":"a"}
 {"type":"test","event":"started","name":"b"}

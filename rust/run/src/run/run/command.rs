@@ -77,8 +77,8 @@ fn push_reports(reports: Vec<CargoReport>, has_event: bool, notes: &mut Vec<Note
     }
 }
 
-/// Returns true if a command could not be started, ended by a signal, or ended with a status above 0 although `causes` is
-/// 0. `causes` is the number of failed tests and contradictions.
+/// Returns true if a command could not be started, ended by a signal, or ended with a status above 0 although `causes`,
+/// the number of failed tests and contradictions, is 0.
 fn command_fails(causes: usize, end: &CommandEnd) -> bool {
     match end {
         CommandEnd::NotStarted { .. } | CommandEnd::Signal { .. } => true,

@@ -36,7 +36,7 @@ impl TestRun {
         failure: CargoFailure,
         plain: &str,
     ) -> Result<(), RunError> {
-        let contradicts = self.contradicts(failure);
+        let contradicts = self.cargo_contradicts(failure);
         self.others.on_failure();
         if contradicts {
             let lacks_events = lacks_events(self.has_event, self.lacked_events, plain);
@@ -54,7 +54,7 @@ impl TestRun {
 
     /// Returns true if no suite is open, and no failed test or earlier contradiction explains this failure of cargo
     /// or nextest. A failed build is never explained.
-    fn contradicts(&self, failure: CargoFailure) -> bool {
+    fn cargo_contradicts(&self, failure: CargoFailure) -> bool {
         let explained = match failure {
             CargoFailure::Build => false,
             CargoFailure::Tests => self.causes > self.causes_at_cargo,
