@@ -61,7 +61,7 @@ fn own_reasons_are_named() {
 fn the_glossary_has_the_least_and_the_most_severe_reason() {
     let reasons: Vec<_> = reasons().into_iter().flatten().collect();
     let (least, most) = (reasons[0], reasons[reasons.len() - 1]);
-    let range = format!("from `{least:?}` (lowest) to `{most:?}` (highest)");
+    let range = format!("from `{least:?}` (least severe) to `{most:?}` (most severe)");
     assert!(row(GLOSSARY, "cancel reason").contains(&range), "{range}");
 }
 
