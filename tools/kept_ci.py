@@ -5,9 +5,10 @@ crate from nothing and keeps no proof, and tries each must-fail edit by a check 
 programs has a new folder, out/incremental, in which the prover keeps what it proves. So the crate is proved from nothing
 as well. A library is built with its proofs, and a verdict may say that it was reached over such a folder. The edits of a
 crate are tried by tools/must-fail over that folder, while other crates are proved. As many crates are proved at the same
-time as there are processors and memory. One process proves each crate, except the largest: it has that many processes of
-its own. Crates that neither wait for the largest nor are waited for by it yield to the others, and so do edits. All else is
-as in `rt ci`: the words that it refuses, contracts that no call can meet, both compilers, and the runs of programs.
+time as there are processors and memory. One process proves a crate. The largest crate has as many processes as crates can be
+proved at the same time. A crate yields to the others if it does not wait for the largest, and the largest does not wait for
+it. Edits yield, too. All else is as in `rt ci`: the words that it refuses, contracts that no call can meet, both compilers,
+and the runs of programs.
 
 There are two forms of `rt`. One of them has a store of what earlier runs passed, and takes `--anew`. What this tool passes
 is then kept there for later runs of this tool, and not for a plain `rt ci`. With the other form each run proves all.

@@ -27,7 +27,7 @@ held_told r =
 abbrev pub file_name : RunState → Option (List ℕ)
 file_name r = slice_get r.file_names 0
 
--- there is a contradiction if the file has no event of a harness, no failed test and no other one, unless its command ended with status 0 or was not started
+-- there is a contradiction if the file has no event, no failed test and no other contradiction, unless its command ended with status 0 or was not started
 abbrev pub no_event_notes : RunState → List NoteView
 no_event_notes r =
     if not r.has_event && (not (nat_lt r.causes_at_file r.causes) && not (ended_well r.command || was_not_started r.command))
@@ -44,7 +44,7 @@ file_end r =
     let suites = all_ended_early nothing_known reports.run in
     step suites.run (reports.notes ++ (suites.notes ++ no_event_notes suites.run))
 
--- the end of a command is a contradiction if it could not be started, ended by a signal, or ended with a status above 0 and nothing else says why
+-- the end of a command is a contradiction if the command could not be started, ended by a signal, or ended with a status above 0 and nothing else says why
 abbrev pub command_fails : ℕ → CommandView → Bool
 command_fails causes (NotStarted error) = true
 command_fails causes (BySignal number) = true

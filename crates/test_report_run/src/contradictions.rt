@@ -6,7 +6,7 @@ ghost use Rattle.test_report_run_notes.specs.Note.{Contradicts, contradiction_vi
 use std::alloc::AllocError;
 use test_report_run_notes::note::{Contradiction, Note};
 
-/// Adds a contradiction. The caller counts it.
+/// Adds a contradiction to the notes, and does not count it.
 pub(crate) fn push_contradiction(
     contradiction: Contradiction,
     notes: &mut Vec<Note>,

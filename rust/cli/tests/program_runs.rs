@@ -2,7 +2,7 @@
 
 use crate::common::{Folder, end_of_text, run, start, wait_for};
 use std::fs;
-use std::io::Write;
+use std::io::{Read, Write};
 
 /// The first line of a run.
 const STARTED: &str = r#"{"type":"command","event":"started"}
@@ -413,8 +413,11 @@ fn a_test_that_has_run_for_a_minute_is_named_while_it_runs() {
     let lines = [STARTED, LEDGER, SLOW].concat();
     let written = running.stdin.write_all(lines.as_bytes());
     written.expect("the program reads");
-    wait_for(running.stdout, "SLOW [> 60s] ledger parses\n");
+    let mut pipe = wait_for(running.stdout, "SLOW [> 60s] ledger parses\n");
     drop(running.stdin);
+    let mut rest = String::new();
+    pipe.read_to_string(&mut rest).expect("the text is UTF-8");
+    assert!(!rest.contains("SLOW [>"), "{rest}");
     running.child.wait().expect("the program ends");
 }
 

@@ -196,7 +196,7 @@ impl Report {
         }
     }
 
-    /// Writes the text of the entries that became known at once, and then their annotations. Flushes the output if there is
+    /// Writes the text that is not yet written, and then the annotations of problems. Flushes the output if there is
     /// something.
     pub(super) fn write_text(&mut self, output: &mut impl Write) -> Result<(), Fault> {
         let annotations = self.annotations.as_mut();

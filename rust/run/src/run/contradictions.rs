@@ -3,7 +3,7 @@
 
 use crate::notes::note::{Contradiction, Note};
 
-/// Adds a contradiction. The caller counts it.
+/// Adds a contradiction to the notes, and does not count it.
 pub(crate) fn push_contradiction(contradiction: Contradiction, notes: &mut Vec<Note>) {
     notes.push(Note::Contradiction(contradiction));
 }
