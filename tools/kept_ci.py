@@ -5,10 +5,10 @@ crate from nothing and keeps no proof, and tries each must-fail edit by a check 
 programs has a new folder, out/incremental, in which the prover keeps what it proves. So the crate is proved from nothing
 as well. A library is built with its proofs, and a verdict may say that it was reached over such a folder. The edits of a
 crate are tried by tools/must-fail over that folder, while other crates are proved. As many crates are proved at the same
-time as there are processors and memory. One process proves a crate. The largest crate has as many processes as crates can be
-proved at the same time. A crate yields to the others if it does not wait for the largest, and the largest does not wait for
-it. Edits yield, too. All else is as in `rt ci`: the words that it refuses, contracts that no call can meet, both compilers,
-and the runs of programs.
+time as there are processors and memory. One process proves a crate. The largest crate, and each crate that waits for
+it, has as many processes as crates can be proved at the same time. A crate yields to the others if it does not wait for the
+largest, and the largest does not wait for it. Edits yield, too. All else is as in `rt ci`: the words that it refuses,
+contracts that no call can meet, both compilers, and the runs of programs.
 
 There are two forms of `rt`. One of them has a store of what earlier runs passed, and takes `--anew`. What this tool passes
 is then kept there for later runs of this tool, and not for a plain `rt ci`. With the other form each run proves all.
@@ -115,8 +115,8 @@ def end_checks_on_signals(must_fail):
 def main(origin, *words):
     """Runs `rt ci` and returns its exit status."""
     # By its own estimate of memory, `rt` leaves processors idle, or gives several to any crate. Four processes took 1.6 times
-    # the processor time of one for a crate of 55 functions, and 0.76 times the time. For the largest crate, for which others
-    # wait, four took 1.3 times the processor time, and 0.46 times the time.
+    # the processor time of one for a crate of 55 functions, and 0.76 times the time. For the largest crate, four took 1.3
+    # times the processor time, and 0.46 times the time. Crates wait for it, and little else is left when these are proved.
     lanes = int(os.environ.setdefault("RT_JOBS", str(compiler.lanes())))
     compiler.PROVED = "rlib"
     rt, must_fail = loaded(f"{compiler.kit()}/bin/rt"), loaded(f"{compiler.TOP}/tools/must-fail")
@@ -138,7 +138,7 @@ def main(origin, *words):
         shutil.rmtree(compiler.kept(crate.name), ignore_errors=True)
         # A library that holds only its statements cannot be built over such a folder.
         plain = [[word for word in command if word != "--statements"] for command in commands]
-        jobs = lanes if crate.name == largest else 1
+        jobs = lanes if largest in crate_list.below(crate.name) else 1
         kept = ["--incremental", compiler.kept(crate.name)]
         return prove_by_priority(crate, *([*with_jobs(command, jobs), *kept] for command in plain))
 
